@@ -1,0 +1,3 @@
+pub mod AllLaws
+pub mod OverlayLaws
+pub mod TransactionLaws

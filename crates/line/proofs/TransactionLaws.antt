@@ -1,0 +1,157 @@
+-- Laws of fields and transactions: the two readings of a legal transaction are one, its fields are unique, and where it ends.
+use mathlib.Core.Bool.{Bool, true, false, not, _&&_, false≢true, and-eq-true-iff}
+use mathlib.Core.List.{List, [], _∷_, _++_}
+use mathlib.Core.Logic.{_⊎_, inl, inr}
+use mathlib.Core.Path.{_≡_, refl, ap, _∙_}
+use Prim.Native.Nat.{ℕ, _-_, _≤_}
+use native.Mathlib.Numerals.{sub-one}
+use native.Mathlib.Omega.{arith}
+use borrow.Author.Tests.{leb-true, eqb-true, le-leb, lt-ltb}
+use lib.Dec.{leb, eqb}
+use lib.ListN.{length, getD, take, drop, length-append}
+use Rattle.line.specs.Answer.{Outcome, done, refused}
+use Rattle.line.specs.Character.{CR, seven, printable, textual}
+use Rattle.line.specs.Test.{if_then_else_, all}
+use Rattle.line.specs.Transaction.{Fields, none, next, Transaction, endsInCR, legal, ofTransaction}
+use Rattle.line.proofs.AllLaws.{all-append, all-weaken}
+
+-- a textual character is printable or CR
+textual-cases : (c : ℕ) → textual c ≡ true → (printable c ≡ true) ⊎ (c ≡ CR)
+textual-cases c h = go (printable c) refl
+  where
+    go : (b : Bool) → printable c ≡ b → (printable c ≡ true) ⊎ (c ≡ CR)
+    go true e = inl e
+    go false e = inr (eqb-true c CR (rw e at h))
+
+-- characters of a transaction are 7-bit values
+pub textual-seven : (t : List ℕ) → all textual t ≡ true → all seven t ≡ true
+textual-seven = all-weaken λ c h. one c (textual-cases c h)
+  where
+    one : (c : ℕ) → (printable c ≡ true) ⊎ (c ≡ CR) → seven c ≡ true
+    one c (inl p) =
+        let (_, le) = and-eq-true-iff (leb 0x20 c) (leb c 0x7E) .0 p in
+        lt-ltb c 0x80 (omega (arith, leb-true c 0x7E le))
+    one c (inr e) = rw e
+
+-- characters of a field are characters of a transaction
+pub printable-textual : (t : List ℕ) → all printable t ≡ true → all textual t ≡ true
+printable-textual = all-weaken λ c h. rw h
+
+-- the end of two lists joined is the second's
+pub ends-append : (s : List ℕ) (c : ℕ) (t : List ℕ) → endsInCR (s ++ c ∷ t) ≡ endsInCR (c ∷ t)
+unfolding endsInCR
+ends-append [] c t = refl
+ends-append (x ∷ []) c t = refl
+ends-append (x ∷ y ∷ s) c t = ends-append (y ∷ s) c t
+
+-- nothing does not end in CR
+pub ends-none : (t : List ℕ) → length t ≡ 0 → endsInCR t ≡ false
+unfolding endsInCR
+ends-none [] e = refl
+ends-none (c ∷ t) e = absurd (omega arith)
+
+-- the end is the character at the last place
+pub ends-last : (t : List ℕ) → endsInCR t ≡ eqb (getD t (length t - 1) 0) CR
+unfolding endsInCR
+ends-last [] = refl
+ends-last (c ∷ []) = refl
+ends-last (c ∷ d ∷ t) = rw sub-one (rw sub-one at (ends-last (d ∷ t)))
+
+-- what ends in CR is what precedes the last place, and CR
+pub ends-split : (t : List ℕ) → endsInCR t ≡ true → t ≡ take (length t - 1) t ++ CR ∷ []
+unfolding endsInCR
+ends-split [] h = cc
+ends-split (c ∷ []) h = rw (eqb-true c CR h)
+ends-split (c ∷ d ∷ t) h = rw sub-one (let e = rw sub-one at (ends-split (d ∷ t) h) in cc)
+
+-- fields are made of characters of a transaction
+fields-textual : {fs : List (List ℕ)} {t : List ℕ} → Fields fs t → all textual t ≡ true
+unfolding all
+fields-textual none = refl
+fields-textual (next {f} h r) = rw (all-append, printable-textual f h, fields-textual r)
+
+-- after a CR, fields end in CR
+fields-end : {fs : List (List ℕ)} {t : List ℕ} → Fields fs t → endsInCR (CR ∷ t) ≡ true
+unfolding endsInCR
+fields-end none = refl
+fields-end (next {f} {t} h r) = ends-append (CR ∷ f) CR t ∙ fields-end r
+
+-- one or more fields have a character and end in CR
+made-end : {fs : List (List ℕ)} {t : List ℕ} → Fields fs t → 1 ≤ length fs → (1 ≤ length t) × (endsInCR t ≡ true)
+made-end none s = absurd (omega arith)
+made-end (next {f} {t} h r) s = (rw length-append (omega arith), ends-append f CR t ∙ fields-end r)
+
+-- a transaction passes the test
+pub transaction-legal : {t : List ℕ} → Transaction t → legal t ≡ true
+transaction-legal {t} r =
+    let (some, end) = made-end (r .made) (r .some) in
+    rw (le-leb 1 (length t) some, le-leb (length t) 2000 (r .within), fields-textual (r .made), end)
+
+-- one character more: a printable one begins the first field, a CR is a field of its own
+extend : (c : ℕ) {fs : List (List ℕ)} {t : List ℕ} → (printable c ≡ true) ⊎ (c ≡ CR) → Fields fs t → 1 ≤ length fs → length (c ∷ t) ≤ 2000 → Transaction (c ∷ t)
+unfolding all
+extend c (inl p) none s l = absurd (omega arith)
+extend c (inl p) (next {f} {fs = fs} h r) s l = record { fields = (c ∷ f) ∷ fs; made = next {f = c ∷ f} (rw (p, h)) r; some = omega arith; within = l }
+extend c {fs} (inr e) r s l = record { fields = [] ∷ fs; made = rw e (next refl r); some = omega arith; within = l }
+
+-- characters of a transaction that end in CR are fields
+split : (t : List ℕ) → all textual t ≡ true → endsInCR t ≡ true → length t ≤ 2000 → Transaction t
+unfolding all endsInCR
+split [] h e l = absurd (false≢true e)
+split (c ∷ []) h e l = record { fields = [] ∷ []; made = rw (eqb-true c CR e) (next refl none); some = omega arith; within = l }
+split (c ∷ d ∷ t) h e l =
+    let (p, q) = and-eq-true-iff (textual c) (all textual (d ∷ t)) .0 h in
+    let r = split (d ∷ t) q e (omega arith) in
+    extend c (textual-cases c p) (r .made) (r .some) l
+
+-- the test's parts
+legal-parts : (t : List ℕ) → legal t ≡ true → (leb 1 (length t) && leb (length t) 2000 ≡ true) × (all textual t ≡ true) × (endsInCR t ≡ true)
+legal-parts t h =
+    let (r, end) = and-eq-true-iff _ (endsInCR t) .0 h in
+    let (n, text) = and-eq-true-iff _ (all textual t) .0 r in
+    (n, text, end)
+
+-- what passes the test is a transaction
+pub legal-transaction : (t : List ℕ) → legal t ≡ true → Transaction t
+legal-transaction t h =
+    let (n, text, end) = legal-parts t h in
+    split t text end (leb-true (length t) 2000 (and-eq-true-iff (leb 1 (length t)) _ .0 n .1))
+
+-- a field is unique: it ends at the first CR
+field-unique : (f g : List ℕ) {t u : List ℕ} → all printable f ≡ true → all printable g ≡ true → f ++ CR ∷ t ≡ g ++ CR ∷ u → (f ≡ g) × (t ≡ u)
+unfolding all
+field-unique [] [] h k e = (refl, cc)
+field-unique [] (c ∷ g) h k e = let q : c ≡ CR = cc in absurd (false≢true (rw q at k))
+field-unique (c ∷ f) [] h k e = let q : c ≡ CR = cc in absurd (false≢true (rw q at h))
+field-unique (c ∷ f) (d ∷ g) h k e =
+    let (p, q) = field-unique f g (and-eq-true-iff (printable c) _ .0 h .1) (and-eq-true-iff (printable d) _ .0 k .1) (ap (drop 1) e) in
+    (cc, q)
+
+-- the fields of a transaction are unique
+pub fields-unique : {fs gs : List (List ℕ)} {t u : List ℕ} → Fields fs t → Fields gs u → t ≡ u → fs ≡ gs
+fields-unique none none e = refl
+fields-unique none (next h r) e = absurd (omega (arith, simp length-append at (ap length e)))
+fields-unique (next h r) none e = absurd (omega (arith, simp length-append at (ap length e)))
+fields-unique (next {f} h r) (next {f = g} k s) e =
+    let (p, q) = field-unique f g h k e in
+    let qs = fields-unique r s q in
+    cc
+
+-- a transaction is never refused
+pub of-legal : {A : Type 0} (t : List ℕ) (o : Outcome A) → legal t ≡ true → ofTransaction t o ≡ o
+unfolding ofTransaction
+of-legal t o h =
+    let (n, text, end) = legal-parts t h in
+    rw (n, textual-seven t text, text, end)
+
+-- what is done is done with a transaction alone
+pub of-done : {A : Type 0} (t : List ℕ) (o : Outcome A) (x : A) → ofTransaction t o ≡ done x → (legal t ≡ true) × (o ≡ done x)
+unfolding ofTransaction
+of-done t o x h = go (leb 1 (length t) && leb (length t) 2000) (all seven t) (all textual t) (endsInCR t) h
+  where
+    go : (n s a e : Bool) → (if not n then refused 2 else if not s then refused 3 else if not (a && e) then refused 6 else o) ≡ done x → (n && a && e ≡ true) × (o ≡ done x)
+    go true true true true h = (refl, h)
+    go true true true false h = (cc, cc)
+    go true true false e h = (cc, cc)
+    go true false a e h = (cc, cc)
+    go false s a e h = (cc, cc)

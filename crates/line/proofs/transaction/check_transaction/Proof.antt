@@ -1,0 +1,73 @@
+-- `check_transaction` meets its contract: each return is the case of `ofTransaction` that the tests before it leave.
+use mathlib.Core.Bool.{and-false}
+use mathlib.Core.Path.{sym, _∙_}
+use borrow.Author.Tests.{lt-leb, le-leb, not-true, not-false}
+use Rattle.line.specs.Transaction.{ofTransaction}
+use borrow.Author.Needs.{needs}
+use Rattle.line.proofs.transaction.check_transaction.Statement.{statement}
+use Rattle.line.proofs.transaction.check_transaction.Tie as tie
+
+returns : tie.Need-returns
+unfolding ofTransaction
+returns c = rw (lt-leb 1 _ (c .if1 .taken))
+
+returns-2 : tie.Need-returns-2
+unfolding ofTransaction
+returns-2 c = rw (le-leb 1 _ (c .before .if1 .left), lt-leb _ 2000 (c .if2 .taken))
+
+is-seven-bit-requires : tie.Need-is-seven-bit-requires
+is-seven-bit-requires c κs = search needs
+
+returns-3 : tie.Need-returns-3
+unfolding ofTransaction
+returns-3 c =
+    let wide = sym (c .before .is-seven-bit .ensures) ∙ not-true _ (c .if3 .taken) in
+    rw (le-leb 1 _ (c .before .before .before .if1 .left), le-leb _ 2000 (c .before .before .if2 .left), wide)
+
+is-textual-requires : tie.Need-is-textual-requires
+is-textual-requires c κs = search needs
+
+returns-4 : tie.Need-returns-4
+unfolding ofTransaction
+returns-4 c =
+    let d = c .before .before in
+    let narrow = sym (d .before .is-seven-bit .ensures) ∙ not-false _ (d .if3 .left) in
+    let wrong = sym (c .before .is-textual .ensures) ∙ not-true _ (c .if4 .taken) in
+    rw (le-leb 1 _ (d .before .before .before .if1 .left), le-leb _ 2000 (d .before .before .if2 .left), narrow, wrong)
+
+ends-in-cr-requires : tie.Need-ends-in-cr-requires
+ends-in-cr-requires c κs = search needs
+
+returns-5 : tie.Need-returns-5
+unfolding ofTransaction
+returns-5 c =
+    let d = c .before .before in
+    let e = d .before .before in
+    let narrow = sym (e .before .is-seven-bit .ensures) ∙ not-false _ (e .if3 .left) in
+    let right = sym (d .before .is-textual .ensures) ∙ not-false _ (d .if4 .left) in
+    let open-end = sym (c .before .ends-in-cr .ensures) ∙ not-true _ (c .if5 .taken) in
+    rw (le-leb 1 _ (e .before .before .before .if1 .left), le-leb _ 2000 (e .before .before .if2 .left), narrow, right, open-end)
+
+returns-6 : tie.Need-returns-6
+unfolding ofTransaction
+returns-6 c =
+    let d = c .before .before in
+    let e = d .before .before in
+    let narrow = sym (e .before .is-seven-bit .ensures) ∙ not-false _ (e .if3 .left) in
+    let right = sym (d .before .is-textual .ensures) ∙ not-false _ (d .if4 .left) in
+    let end = sym (c .before .ends-in-cr .ensures) ∙ not-false _ (c .if5 .left) in
+    rw (le-leb 1 _ (e .before .before .before .if1 .left), le-leb _ 2000 (e .before .before .if2 .left), narrow, right, end)
+
+pub check-transaction-spec : {M : Type 1} → statement M
+check-transaction-spec =
+    tie.close
+    (tie.spec
+    returns
+    returns-2
+    is-seven-bit-requires
+    returns-3
+    is-textual-requires
+    returns-4
+    ends-in-cr-requires
+    returns-5
+    returns-6)

@@ -1,0 +1,56 @@
+-- What a call comes to, in document 01's numbers: what it makes, or the number of the refusal. And what lent memory holds afterwards.
+use mathlib.Core.List.{List, [], _++_}
+use mathlib.Core.Path.{_≡_}
+use Prim.Native.Nat.{ℕ}
+use lib.Dec.{ltb}
+use lib.ListN.{length, drop}
+use Rattle.line.specs.Test.{if_then_else_}
+use Rattle.line.specs.declared.answer.Refusal.{Refusal}
+use Rattle.line.specs.declared.answer.Refusal.the-variants.{Size, Length, Parity, Frame, Checksum, Information, Journal, Room, Range}
+use Rattle.line.specs.declared.answer.Written.{Written}
+use Rattle.line.specs.declared.answer.Written.the-variants.{Count, Refused}
+
+-- document 01's number of each refusal ("Numbered returns")
+abbrev pub refusalNumber : Refusal → ℕ
+refusalNumber Size = 1
+refusalNumber Length = 2
+refusalNumber Parity = 3
+refusalNumber Frame = 4
+refusalNumber Checksum = 5
+refusalNumber Information = 6
+refusalNumber Journal = 7
+refusalNumber Room = 8
+refusalNumber Range = 9
+
+-- what a call comes to: done (0) with what it makes, or refused by number
+pub data Outcome (A : Type 0) : Type 0 where
+  done : A → Outcome A
+  refused : ℕ → Outcome A
+
+-- a writer's answer as document 01 gives it: 0 with the count, or the refusal's number (and the count is 0)
+abbrev pub writtenAs : Written → Outcome ℕ
+writtenAs (Count n) = done n
+writtenAs (Refused r) = refused (refusalNumber r)
+
+-- how many bytes an outcome counts
+abbrev pub counted : Outcome (List ℕ) → Outcome ℕ
+counted (done xs) = done (length xs)
+counted (refused n) = refused n
+
+-- the bytes an outcome puts out: none where it is refused
+abbrev pub output : Outcome (List ℕ) → List ℕ
+output (done xs) = xs
+output (refused n) = []
+
+-- the memory m with xs laid over its start
+unfoldable pub overlay : List ℕ → List ℕ → List ℕ
+overlay xs m = xs ++ drop (length xs) m
+
+-- what a writer owes: it answers the outcome, and the memory keeps all but the bytes put out at its start
+pub record Wrote (o : Outcome (List ℕ)) (r : Written) (before after : List ℕ) : Type 0 where
+  pub answers : writtenAs r ≡ counted o
+  pub leaves : after ≡ overlay (output o) before
+
+-- bytes into a buffer of so many bytes: 1 where it is short
+unfoldable pub copied : List ℕ → ℕ → Outcome (List ℕ)
+copied bytes room = if ltb room (length bytes) then refused 1 else done bytes

@@ -1,0 +1,49 @@
+-- The characters of the line by name, and the classes of characters that fields and transactions are made of.
+use mathlib.Core.Bool.{Bool, _&&_, _||_}
+use Prim.Native.Nat.{ℕ}
+use lib.Dec.{leb, ltb, eqb}
+
+abbrev pub STX : ℕ
+STX = 0x02
+
+abbrev pub ETX : ℕ
+ETX = 0x03
+
+abbrev pub EOT : ℕ
+EOT = 0x04
+
+abbrev pub ACK : ℕ
+ACK = 0x06
+
+abbrev pub LF : ℕ
+LF = 0x0A
+
+abbrev pub CR : ℕ
+CR = 0x0D
+
+abbrev pub NAK : ℕ
+NAK = 0x15
+
+abbrev pub ETB : ℕ
+ETB = 0x17
+
+abbrev pub ESC : ℕ
+ESC = 0x1B
+
+abbrev pub RS : ℕ
+RS = 0x1E
+
+abbrev pub US : ℕ
+US = 0x1F
+
+-- a 7-bit value: below 80 hex
+abbrev pub seven : ℕ → Bool
+seven c = ltb c 0x80
+
+-- a character of a field: 20 to 7E
+abbrev pub printable : ℕ → Bool
+printable c = leb 0x20 c && leb c 0x7E
+
+-- a character of a transaction's information: 20 to 7E, or CR
+abbrev pub textual : ℕ → Bool
+textual c = printable c || eqb c CR

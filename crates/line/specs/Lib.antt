@@ -1,0 +1,6 @@
+pub mod Answer
+pub mod Character
+pub mod Parity
+pub mod Test
+pub mod Transaction
+pub mod Text

@@ -1,0 +1,29 @@
+// Copies into lent memory.
+use crate::answer::Refusal;
+use crate::answer::Written;
+ghost use mathlib.Core.Path.{_≡_};
+ghost use Prim.Native.Nat.{_≤_};
+ghost use lib.ListN.{length};
+ghost use Rattle.line.specs.Answer.{Wrote, copied, overlay};
+
+// All of the bytes, at the start of the output.
+pub fn copy(bytes: &[u8], out: &mut [u8]) -> Written
+    ensures { λ r. ⌜ Wrote (copied (now (bytes .entry)) (length (now (out .entry)))) r (now (out .entry)) (now (out .exit)) ⌝ }
+{
+    if out.len() < bytes.len() {
+        return Written::Refused(Refusal::Size);
+    }
+    put(bytes, out);
+    Written::Count(bytes.len())
+}
+
+fn put(bytes: &[u8], out: &mut [u8])
+    requires { ⌜ length (now bytes) ≤ length (now out) ⌝ }
+    ensures { λ _. ⌜ now (out .exit) ≡ overlay (now (bytes .entry)) (now (out .entry)) ⌝ }
+{
+    let mut i = 0;
+    while i < bytes.len() {
+        out[i] = bytes[i];
+        i += 1;
+    }
+}
