@@ -7,7 +7,7 @@ use native.Mathlib.Numerals.{add-one}
 use native.Mathlib.Omega.{arith}
 use lib.ListN.{length, getD, take, drop, set, length-append, length-drop, length-map, drop-of-length-le}
 use lib.Seq.{drop-cons, take-all, take-suc, set-at, take-at, drop-at, length-take-le, drop-drop}
-use Rattle.line.specs.Answer.{Outcome, done, refused, overlay, output, counted, Wrote, refusalNumber}
+use Rattle.line.specs.Answer.{Outcome, done, refused, overlay, output, mapDone, Wrote, refusalNumber}
 use Rattle.line.specs.declared.answer.Refusal.{Refusal}
 use Rattle.line.specs.declared.answer.Written.the-variants.{Count, Refused}
 
@@ -64,7 +64,7 @@ overlay-part a b m n k e h q =
 
 -- a refusal that leaves the memory alone
 pub wrote-refused : {o : Outcome (List ℕ)} (r : Refusal) (m : List ℕ) → o ≡ refused (refusalNumber r) → Wrote o (Refused r) m m
-wrote-refused r m e = record { answers = sym (ap counted e); leaves = rw e (overlay-none m) }
+wrote-refused r m e = record { answers = rw e; leaves = rw e (overlay-none m) }
 
 -- the count of what was laid over the start
 pub wrote-done : {o : Outcome (List ℕ)} (xs : List ℕ) (n : ℕ) (before after : List ℕ) → o ≡ done xs → n ≡ length xs → after ≡ overlay xs before → Wrote o (Count n) before after

@@ -32,10 +32,15 @@ abbrev pub writtenAs : Written → Outcome ℕ
 writtenAs (Count n) = done n
 writtenAs (Refused r) = refused (refusalNumber r)
 
--- how many bytes an outcome counts
-abbrev pub counted : Outcome (List ℕ) → Outcome ℕ
-counted (done xs) = done (length xs)
-counted (refused n) = refused n
+-- an outcome with what it makes taken further
+abbrev pub mapDone : {A B : Type 0} → (A → B) → Outcome A → Outcome B
+mapDone f (done x) = done (f x)
+mapDone f (refused n) = refused n
+
+-- a second call on what the first makes; a refusal of the first stands
+abbrev pub andThen : {A B : Type 0} → Outcome A → (A → Outcome B) → Outcome B
+andThen (done x) f = f x
+andThen (refused n) f = refused n
 
 -- the bytes an outcome puts out: none where it is refused
 abbrev pub output : Outcome (List ℕ) → List ℕ
@@ -46,9 +51,14 @@ output (refused n) = []
 unfoldable pub overlay : List ℕ → List ℕ → List ℕ
 overlay xs m = xs ++ drop (length xs) m
 
+-- bytes laid over the start of the memory, and their count
+pub record Laid (xs : List ℕ) (n : ℕ) (before after : List ℕ) : Type 0 where
+  pub counts : n ≡ length xs
+  pub leaves : after ≡ overlay xs before
+
 -- what a writer owes: it answers the outcome, and the memory keeps all but the bytes put out at its start
 pub record Wrote (o : Outcome (List ℕ)) (r : Written) (before after : List ℕ) : Type 0 where
-  pub answers : writtenAs r ≡ counted o
+  pub answers : writtenAs r ≡ mapDone length o
   pub leaves : after ≡ overlay (output o) before
 
 -- bytes into a buffer of so many bytes: 1 where it is short
