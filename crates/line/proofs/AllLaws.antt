@@ -1,12 +1,12 @@
--- Laws of `all`, the test of every member of a list: as a loop makes it, over an append, at a member, and from one test to a weaker one.
+-- Laws of `all`, the test of every member of a list: as a loop makes it, over an append, at a member, from one test to a weaker one, and over a map.
 -- And of `same`: it decides that two lists are equal.
-use mathlib.Core.Bool.{Bool, true, false, _&&_, and-assoc, and-eq-true-iff}
-use mathlib.Core.List.{List, [], _∷_, _++_}
+use mathlib.Core.Bool.{Bool, true, false, _&&_, false≢true, and-assoc, and-eq-true-iff}
+use mathlib.Core.List.{List, [], _∷_, _++_, map}
 use mathlib.Core.Path.{_≡_, refl, sym, _∙_}
 use Prim.Native.Nat.{ℕ, zero, suc, _+_, _≤_, _<_}
 use native.Mathlib.Nat.{not-suc-le-zero, le-of-suc-le-suc}
 use native.Mathlib.Numerals.{add-one}
-use lib.ListN.{length, getD, drop, drop-of-length-le}
+use lib.ListN.{length, getD, take, drop, drop-of-length-le, take-append-drop}
 use lib.Seq.{drop-cons}
 use borrow.Author.Tests.{eqb-true, eq-eqb}
 use lib.Dec.{eqb}
@@ -43,12 +43,55 @@ all-weaken {p} w (x ∷ xs) h =
     let (a, b) = and-eq-true-iff (p x) (all p xs) .0 h in
     rw (w x a, all-weaken w xs b)
 
+-- the front of two lists joined passes where the whole does
+pub all-front : (p : ℕ → Bool) (s t : List ℕ) → all p (s ++ t) ≡ true → all p s ≡ true
+all-front p s t h = and-eq-true-iff (all p s) (all p t) .0 (rw all-append at h) .0
+
+-- the first members pass where all do
+pub all-take : (p : ℕ → Bool) (n : ℕ) (xs : List ℕ) → all p xs ≡ true → all p (take n xs) ≡ true
+all-take p n xs h = all-front p (take n xs) (drop n xs) (rw (take-append-drop n xs) h)
+
 -- where all pass, each passes
 pub all-at : (p : ℕ → Bool) (xs : List ℕ) (i : ℕ) → all p xs ≡ true → i < length xs → p (getD xs i 0) ≡ true
 unfolding all
 all-at p [] i e h = absurd (not-suc-le-zero h)
 all-at p (x ∷ xs) zero e h = and-eq-true-iff (p x) (all p xs) .0 e .0
 all-at p (x ∷ xs) (suc i) e h = all-at p xs i (and-eq-true-iff (p x) (all p xs) .0 e .1) (le-of-suc-le-suc h)
+
+-- where one fails, not all pass
+pub all-fails : (p : ℕ → Bool) (xs : List ℕ) (i : ℕ) → p (getD xs i 0) ≡ false → i < length xs → all p xs ≡ false
+all-fails p xs i e h = go (all p xs) refl
+  where
+    go : (b : Bool) → all p xs ≡ b → all p xs ≡ false
+    go true a = absurd (false≢true (sym e ∙ all-at p xs i a h))
+    go false a = a
+
+-- what passes each of two tests passes both
+pub all-both : (p q : ℕ → Bool) (xs : List ℕ) → all p xs ≡ true → all q xs ≡ true → all (λ x. p x && q x) xs ≡ true
+unfolding all
+all-both p q [] a b = refl
+all-both p q (x ∷ xs) a b =
+    let (a₀, a₁) = and-eq-true-iff (p x) (all p xs) .0 a in
+    let (b₀, b₁) = and-eq-true-iff (q x) (all q xs) .0 b in
+    rw (a₀, b₀, all-both p q xs a₁ b₁)
+
+-- a mapped list passes where each member passes as it is mapped
+pub all-map : {p : ℕ → Bool} (q : ℕ → Bool) (f : ℕ → ℕ) → ((x : ℕ) → p x ≡ true → q (f x) ≡ true) → (xs : List ℕ) → all p xs ≡ true → all q (map f xs) ≡ true
+unfolding all
+all-map q f w [] h = refl
+all-map {p} q f w (x ∷ xs) h =
+    let (a, b) = and-eq-true-iff (p x) (all p xs) .0 h in
+    rw (w x a, all-map q f w xs b)
+
+-- two maps one after the other give a list back where they give each member back
+pub map-back : {p : ℕ → Bool} (f g : ℕ → ℕ) → ((x : ℕ) → p x ≡ true → g (f x) ≡ x) → (xs : List ℕ) → all p xs ≡ true → map g (map f xs) ≡ xs
+unfolding all
+map-back f g w [] h = refl
+map-back {p} f g w (x ∷ xs) h =
+    let (a, b) = and-eq-true-iff (p x) (all p xs) .0 h in
+    let head = w x a in
+    let tail = map-back f g w xs b in
+    cc
 
 -- the same lists are equal
 pub same-equal : (xs ys : List ℕ) → same xs ys ≡ true → xs ≡ ys

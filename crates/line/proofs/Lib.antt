@@ -1,3 +1,6 @@
 pub mod AllLaws
+pub mod CopyLaws
+pub mod OutcomeLaws
 pub mod OverlayLaws
+pub mod ParityLaws
 pub mod TransactionLaws

@@ -21,6 +21,11 @@ pub overlay-length : (a m : List ℕ) → length a ≤ length m → length (over
 unfolding overlay
 overlay-length a m h = simp (length-append, length-drop) (omega arith)
 
+-- what is laid over the start lies there
+pub overlay-start : (a m : List ℕ) (n : ℕ) → length a ≡ n → take n (overlay a m) ≡ a
+unfolding overlay
+overlay-start a m n e = take-at a (drop (length a) m) n e
+
 -- one byte more, stored right behind
 pub overlay-snoc : (a m : List ℕ) (n v : ℕ) → length a ≡ n → n < length m → set (overlay a m) n v ≡ overlay (a ++ v ∷ []) m
 unfolding overlay

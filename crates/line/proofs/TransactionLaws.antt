@@ -50,6 +50,12 @@ unfolding endsInCR
 ends-none [] e = refl
 ends-none (c ∷ t) e = absurd (omega arith)
 
+-- what ends in CR has a character
+pub ends-some : (t : List ℕ) → endsInCR t ≡ true → 1 ≤ length t
+unfolding endsInCR
+ends-some [] e = absurd (false≢true e)
+ends-some (c ∷ t) e = omega arith
+
 -- the end is the character at the last place
 pub ends-last : (t : List ℕ) → endsInCR t ≡ eqb (getD t (length t - 1) 0) CR
 unfolding endsInCR
@@ -105,7 +111,7 @@ split (c ∷ d ∷ t) h e l =
     extend c (textual-cases c p) (r .made) (r .some) l
 
 -- the test's parts
-legal-parts : (t : List ℕ) → legal t ≡ true → (leb 1 (length t) && leb (length t) 2000 ≡ true) × (all textual t ≡ true) × (endsInCR t ≡ true)
+pub legal-parts : (t : List ℕ) → legal t ≡ true → (leb 1 (length t) && leb (length t) 2000 ≡ true) × (all textual t ≡ true) × (endsInCR t ≡ true)
 legal-parts t h =
     let (r, end) = and-eq-true-iff _ (endsInCR t) .0 h in
     let (n, text) = and-eq-true-iff _ (all textual t) .0 r in

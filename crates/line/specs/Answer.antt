@@ -42,8 +42,8 @@ abbrev pub andThen : {A B : Type 0} → Outcome A → (A → Outcome B) → Outc
 andThen (done x) f = f x
 andThen (refused n) f = refused n
 
--- the bytes an outcome puts out: none where it is refused
-abbrev pub output : Outcome (List ℕ) → List ℕ
+-- what an outcome puts out: nothing where it is refused
+abbrev pub output : {A : Type 0} → Outcome (List A) → List A
 output (done xs) = xs
 output (refused n) = []
 

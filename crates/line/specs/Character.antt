@@ -36,6 +36,10 @@ RS = 0x1E
 abbrev pub US : ℕ
 US = 0x1F
 
+-- a byte: below 100 hex
+abbrev pub byte : ℕ → Bool
+byte b = ltb b 0x100
+
 -- a 7-bit value: below 80 hex
 abbrev pub seven : ℕ → Bool
 seven c = ltb c 0x80

@@ -21,6 +21,10 @@ withParity c = c + 0x80 * (ones c % 2)
 abbrev pub sevenBits : ℕ → ℕ
 sevenBits b = b % 0x80
 
+-- a byte with bit 7 flipped
+abbrev pub flipTop : ℕ → ℕ
+flipTop b = (b + 0x80) % 0x100
+
 -- characters into a buffer of so many bytes, with parity: 1 where it is short, 3 where one is no 7-bit value
 unfoldable pub parityOn : List ℕ → ℕ → Outcome (List ℕ)
 parityOn text room =

@@ -1,12 +1,10 @@
+-- `is_information` meets its contract: below 20 hex only CR passes, and from there on CR does not count.
 use native.Mathlib.Omega.{arith}
 use mathlib.Core.Bool.{or-false}
 use mathlib.Core.Path.{_≡_}
 use borrow.Author.Tests.{lt-leb, le-leb, ne-eqb}
-use native.Mathlib.Omega.{arith}
 use Rattle.line.proofs.character.is_information.Statement.{statement}
 use Rattle.line.proofs.character.is_information.Tie as tie
-
--- `is_information` meets its contract: below 20 hex only CR passes, and from there on CR does not count.
 
 returns : tie.Need-returns
 returns c = rw (lt-leb 32 _ (c .if1 .taken))

@@ -2,7 +2,7 @@
 use mathlib.Core.Path.{_≡_, refl}
 use Prim.Native.Nat.{_≤_, _-_}
 use borrow.Author.Tests.{lt-ltb, le-ltb}
-use lib.ListN.{length, drop}
+use lib.ListN.{length, getD, drop}
 use Rattle.line.specs.Character.{seven}
 use Rattle.line.specs.Test.{all}
 use Rattle.line.proofs.AllLaws.{all-passed, all-failed, all-ended}
@@ -24,7 +24,10 @@ shared-slice-read-if1 : tie.Need-shared-slice-read-if1 Inv-loop μ-loop
 shared-slice-read-if1 c = search needs
 
 returns : tie.Need-returns Inv-loop μ-loop
-returns c = all-failed seven _ _ (c .before .before .before .loop .inv .1) (le-ltb _ _ (c .if1 .taken)) (omega arith)
+returns c =
+    let l = c .before .before .before .loop in
+    let b = getD (c .before .before .before .before .args .text .now) (l .i) 0 in
+    all-failed seven _ _ (l .inv .1) (le-ltb b 0x80 (omega arith)) (omega arith)
 
 add-i : tie.Need-add-i Inv-loop μ-loop
 add-i c = search needs

@@ -1,7 +1,8 @@
 -- `check_transaction` meets its contract: each return is the case of `ofTransaction` that the tests before it leave.
-use mathlib.Core.Bool.{and-false}
 use mathlib.Core.Path.{sym, _∙_}
 use borrow.Author.Tests.{lt-leb, le-leb, not-true, not-false}
+use lib.ListN.{length}
+use native.Mathlib.Omega.{arith}
 use Rattle.line.specs.Transaction.{ofTransaction}
 use borrow.Author.Needs.{needs}
 use Rattle.line.proofs.transaction.check_transaction.Statement.{statement}
@@ -13,7 +14,9 @@ returns c = rw (lt-leb 1 _ (c .if1 .taken))
 
 returns-2 : tie.Need-returns-2
 unfolding ofTransaction
-returns-2 c = rw (le-leb 1 _ (c .before .if1 .left), lt-leb _ 2000 (c .if2 .taken))
+returns-2 c =
+    let n = length (c .before .before .before .args .info .now) in
+    rw (le-leb 1 n (omega arith), lt-leb n 2000 (omega arith))
 
 is-seven-bit-requires : tie.Need-is-seven-bit-requires
 is-seven-bit-requires c κs = search needs

@@ -1,0 +1,27 @@
+-- Outcomes that are done: what was done before them.
+use mathlib.Core.Bool.{Bool, true, false}
+use mathlib.Core.Path.{_≡_, refl}
+use Prim.Native.Nat.{ℕ}
+use native.Mathlib.Omega.{arith}
+use Rattle.line.specs.Answer.{Outcome, done, refused, mapDone, andThen}
+use Rattle.line.specs.Test.{if_then_else_}
+
+-- a second call is done on what a first has made
+pub then-done : {A B : Type 0} (o : Outcome A) (f : A → Outcome B) (y : B) → andThen o f ≡ done y → (x : A) × (o ≡ done x) × (f x ≡ done y)
+then-done (done x) f y e = (x, refl, e)
+then-done (refused n) f y e = let z : _≡_ {A = ℕ} 0 1 = cc in absurd (omega arith)
+
+-- what is taken further was made
+pub map-done : {A B : Type 0} (f : A → B) (o : Outcome A) (y : B) → mapDone f o ≡ done y → (x : A) × (o ≡ done x) × (f x ≡ y)
+map-done f (done x) y e = (x, refl, cc)
+map-done f (refused n) y e = let z : _≡_ {A = ℕ} 0 1 = cc in absurd (omega arith)
+
+-- what is done has passed the test that refuses
+pub passed : {A : Type 0} (s : Bool) (n : ℕ) (o : Outcome A) (x : A) → (if s then refused n else o) ≡ done x → (s ≡ false) × (o ≡ done x)
+passed true n o x e = let z : _≡_ {A = ℕ} 0 1 = cc in absurd (omega arith)
+passed false n o x e = (refl, e)
+
+-- the same where the test is to hold
+pub held : {A : Type 0} (s : Bool) (n : ℕ) (o : Outcome A) (x : A) → (if s then o else refused n) ≡ done x → (s ≡ true) × (o ≡ done x)
+held true n o x e = (refl, e)
+held false n o x e = let z : _≡_ {A = ℕ} 0 1 = cc in absurd (omega arith)

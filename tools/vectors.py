@@ -1,0 +1,307 @@
+#!/usr/bin/env python3
+"""Writes crates/vectors/stdin and crates/vectors/stdout: calls, and what document 01 says comes of each.
+
+The answers come from a model of document 01 that is written here in Python, from the paper and not from the Rattle sources, and from the
+numbers that the paper prints, which are asserted below. The program `vectors` makes the calls on the proved functions; the gate compares.
+
+A line of stdin is a call: a letter, then arguments with a space before each. Bytes are hex pairs; `*` and four hex digits behind a pair repeat it;
+no bytes are `-`. A number is bytes too, high first.
+"""
+import os, random
+
+STX, ETX, EOT, ACK, LF, CR, NAK, ETB, ESC, RS, US = 2, 3, 4, 6, 0x0A, 0x0D, 0x15, 0x17, 0x1B, 0x1E, 0x1F
+ENDINGS = {"x": ETX, "b": ETB, "u": US}
+calls, answers = [], []
+
+
+class Refused(Exception):
+    pass
+
+
+def hexed(b):
+    """Bytes as the stdin has them, long runs shortened."""
+    if not b:
+        return "-"
+    out, i = [], 0
+    while i < len(b):
+        j = i
+        while j < len(b) and b[j] == b[i] and j - i < 0xFFFF:
+            j += 1
+        out.append("%02x*%04x" % (b[i], j - i) if j - i > 7 else ("%02x" % b[i]) * (j - i))
+        i = j
+    return "".join(out)
+
+
+def number(n):
+    return "%04x" % n
+
+
+def plain(b):
+    return "".join("%02x" % x for x in b) or "-"
+
+
+def call(op, *args, answer):
+    calls.append(" ".join([op] + list(args)))
+    try:
+        answers.append(answer())
+    except Refused as r:
+        answers.append("refused %s" % r)
+
+
+# ── parity ──
+def with_parity(c):
+    return c | 0x80 if bin(c).count("1") % 2 else c
+
+
+def set_parity(text, room):
+    if room < len(text):
+        raise Refused(1)
+    if any(c > 0x7F for c in text):
+        raise Refused(3)
+    return bytes(map(with_parity, text))
+
+
+def clear_parity(line, room):
+    if room < len(line):
+        raise Refused(1)
+    if any(bin(c).count("1") % 2 for c in line):
+        raise Refused(3)
+    return bytes(c & 0x7F for c in line)
+
+
+# ── blocks ──
+def check_characters(text):
+    s = sum(c & 0x7F for c in text) & 0xFFF
+    return bytes([0x30 | s >> 8, 0x30 | s >> 4 & 15, 0x30 | s & 15])
+
+
+def block(info, e):
+    body = bytes([STX]) + info + bytes([e])
+    return body + check_characters(body) + bytes([CR])
+
+
+def text_ok(info):
+    return all(0x20 <= c <= 0x7E or c == CR for c in info)
+
+
+def agrees(info, e):
+    if e == US:
+        return len(info) > 0 and info[-1] != CR
+    return len(info) > 0 and info[-1] == CR
+
+
+def write(info, e, room):
+    if room < len(info) + 6:
+        raise Refused(1)
+    if len(info) > 250:
+        raise Refused(2)
+    if any(c > 0x7F for c in info):
+        raise Refused(3)
+    if not text_ok(info) or not agrees(info, e):
+        raise Refused(6)
+    return block(info, e)
+
+
+def read(s):
+    if not 6 <= len(s) <= 256:
+        raise Refused(2)
+    if any(c > 0x7F for c in s):
+        raise Refused(3)
+    if s[0] != STX or s[-5] not in ENDINGS.values() or any(not 0x30 <= c <= 0x3F for c in s[-4:-1]) or s[-1] != CR:
+        raise Refused(4)
+    if check_characters(s[:-4]) != s[-4:-1]:
+        raise Refused(5)
+    info, e = s[1:-5], s[-5]
+    if not text_ok(info) or not agrees(info, e):
+        raise Refused(6)
+    return info, e
+
+
+def letter(e):
+    return {v: k for k, v in ENDINGS.items()}[e]
+
+
+def judge(info):
+    if not 1 <= len(info) <= 2000:
+        raise Refused(2)
+    if any(c > 0x7F for c in info):
+        raise Refused(3)
+    if not text_ok(info) or info[-1] != CR:
+        raise Refused(6)
+
+
+def count_blocks(n):
+    return -(-n // 250)
+
+
+def cut(info):
+    out = []
+    for i in range(count_blocks(len(info))):
+        piece = info[250 * i:250 * i + 250]
+        last = 250 * i + 250 >= len(info)
+        out.append((piece, ETX if last else ETB if piece[-1] == CR else US))
+    return out
+
+
+def segments(info, room):
+    if room < len(info) + 6 * count_blocks(len(info)):
+        raise Refused(1)
+    judge(info)
+    return b"".join(block(p, e) for p, e in cut(info))
+
+
+def segment(info, i, room):
+    if i >= count_blocks(len(info)):
+        raise Refused(9)
+    if room < len(info[250 * i:250 * i + 250]) + 6:
+        raise Refused(1)
+    judge(info)
+    return block(*cut(info)[i])
+
+
+def reassemble(blocks):
+    """The answers to block after block, from the start, in a buffer of 2,000."""
+    held, complete, out = b"", False, []
+    for s in blocks:
+        try:
+            if len(held) + max(0, len(s) - 6) > 2000:
+                raise Refused(2)
+            info, e = read(s)
+            if complete:
+                raise Refused(6)
+            held, complete = held + info, e == ETX
+            out.append("%d %s" % (len(held), "whole" if complete else "part"))
+        except Refused as r:
+            out.append("refused %s" % r)
+    return ", ".join(out) + " " + plain(held)
+
+
+def wrote(b):
+    return "%d %s" % (len(b), plain(b))
+
+
+def p(text, room=None):
+    room = len(text) if room is None else room
+    call("p", number(room), hexed(text), answer=lambda: wrote(set_parity(text, room)))
+
+
+def q(line, room=None):
+    room = len(line) if room is None else room
+    call("q", number(room), hexed(line), answer=lambda: wrote(clear_parity(line, room)))
+
+
+def c(text):
+    call("c", hexed(text), answer=lambda: "%d %s" % (sum(x & 0x7F for x in text) % 4096, plain(check_characters(text))))
+
+
+def w(info, e, room=None):
+    room = len(info) + 6 if room is None else room
+    call("w", number(room), e, hexed(info), answer=lambda: wrote(write(info, ENDINGS[e], room)))
+
+
+def r(s):
+    def a():
+        info, e = read(s)
+        return "%s %d %s" % (letter(e), len(info), plain(info))
+    call("r", hexed(s), answer=a)
+
+
+def s(info, room=None):
+    room = len(info) + 6 * count_blocks(len(info)) if room is None else room
+    call("s", number(room), hexed(info), answer=lambda: "%d: %s" % (count_blocks(len(info)), wrote(segments(info, room))))
+
+
+def t(info, i, room=256):
+    call("t", number(room), number(i), hexed(info), answer=lambda: wrote(segment(info, i, room)))
+
+
+def j(*blocks):
+    call("j", *[hexed(b) for b in blocks], answer=lambda: reassemble(blocks))
+
+
+def codec(rng):
+    # the paper's numbers
+    assert block(b"123\rABC\r", ETX) == b"\x02123\rABC\r\x0317;\r" and sum(b"\x02123\rABC\r\x03") == 379
+    assert check_characters(b"\x027\r\r\x03") == b"056" and sum(b"\x027\r\r\x03") == 86
+    assert check_characters(b"\x02" + b"~" * 249 + b"\r\x03") == b"::0" and sum(b"\x02" + b"~" * 249 + b"\r\x03") == 31392
+    assert block(b"1\rTEST\r", ETX)[-4:-1] == b"190"
+    assert [x[1] for x in cut(b"1\r" + b"A" * 247 + b"\r")] == [ETX]
+    two = cut(b"1\r" + b"A" * 248 + b"\r")
+    assert [x[1] for x in two] == [US, ETX] and block(*two[0])[-4:-1] == b"?57" and two[1][0] == b"\r" and block(*two[1])[-4:-1] == b"012"
+    assert cut(b"9" * 249 + b"\rX\r")[0][1] == ETB
+    assert bytes(map(with_parity, [STX, 0x31, CR, ETX, 0x43, NAK, EOT])) == bytes([0x82, 0xB1, 0x8D, 0x03, 0xC3, 0x95, 0x84])
+    for text in (b"", b"\x02", b"123\rABC\r", bytes(range(128)), bytes(range(129)), b"A\x80", b"\xff"):
+        p(text)
+    p(b"ABC", 2), p(b"ABC", 3), p(b"ABC", 4), p(b"\x80", 0)
+    for b in range(256):
+        q(bytes([b]))
+    for text in (b"123\rABC\r", bytes(range(128))):
+        q(bytes(map(with_parity, text)))
+        for i in (0, len(text) // 2, len(text) - 1):
+            line = bytearray(map(with_parity, text))
+            line[i] ^= 0x80
+            q(bytes(line))
+    q(b"\x41\x41", 1), q(b"\x40\x41", 1)
+    for text in (b"", b"\x02123\rABC\r\x03", b"\x027\r\r\x03", b"\x02" + b"~" * 249 + b"\r\x03", b"\xff" * 5000, b"\x021\rTEST\r\x03"):
+        c(text)
+    for info, e in ((b"123\rABC\r", "x"), (b"7\r\r", "x"), (b"~" * 249 + b"\r", "x"), (b"", "x"), (b"", "b"), (b"", "u"), (b"A", "u"), (b"A", "b"),
+                    (b"A", "x"), (b"A\r", "u"), (b"A\r", "b"), (b"A" * 250, "u"), (b"A" * 251, "u"), (b"\x80" * 251, "u"), (b"\x7f\r", "x"), (b"\x1f\r", "x"),
+                    (b"\x80\r", "x"), (b"\n\r", "x"), (b" \r", "x"), (b"1\rTEST\r", "x")):
+        w(info, e)
+    w(b"123\rABC\r", "x", 13), w(b"123\rABC\r", "x", 14), w(b"\x80", "x", 6), w(b"A" * 251, "u", 256), w(b"A\r", "x", 300)
+    good = block(b"123\rABC\r", ETX)
+    r(good)
+    for i in range(len(good)):
+        for x in (good[i] ^ 1, good[i] ^ 0x80, 0):
+            r(good[:i] + bytes([x]) + good[i + 1:])
+    for i in range(len(good)):
+        r(good[:i])
+    r(block(b"~" * 249 + b"\r", ETX)), r(block(b"A" * 250, US)), r(block(b"A" * 251, US)), r(b"\x02\x03017\r"), r(block(b"", ETX)), r(block(b"", US))
+    r(block(b"A", ETX)), r(block(b"A\r", US)), r(block(b"A\x00\r", ETB)), r(block(b"A\r", RS)), r(block(b"A\x80\r", ETX)), r(b"\x02" * 5), r(b"\x02" * 257)
+    infos = [b"1\r" + b"A" * k + b"\r" for k in (0, 1, 246, 247, 248, 249, 496, 497, 498, 1995, 1996, 1997, 1998)] + [b"9" * 249 + b"\rX\r", b"\r", b"", b"A", b"\x80\r",
+             b"\x1b\r", b"\r" * 250, b"\r" * 251, b"\r" * 2000, b"A" * 2000, b"A" * 2001]
+    for info in infos:
+        s(info)
+        n = count_blocks(len(info))
+        for i in {0, 1, n - 1, n} - {-1}:
+            t(info, i)
+        if legal(info):
+            blocks = [block(*x) for x in cut(info)]
+            j(*blocks)
+            j(*(blocks + [block(b"X\r", ETX)]))
+    s(b"1\rA\r", 9), s(b"1\rA\r", 10), s(b"A" * 251 + b"\x80\r", 264), s(b"A" * 251 + b"\x80\r", 265), t(b"1\rA\r", 0, 9), t(b"1\rA\r", 1, 0), t(b"\x80\x80", 0, 7), t(b"\x80\x80", 0, 8)
+    for _ in range(200):
+        info = bytes(rng.choice(b"\rAB ~") for _ in range(rng.choice((1, 2, 5, 30, 249, 250, 251, 499, 500, 501, 900)))) + b"\r"
+        s(info)
+        i = rng.randrange(count_blocks(len(info)) + 1)
+        t(info, i)
+        pieces, k = [], 0
+        while k < len(info):
+            m = min(len(info) - k, rng.randint(1, 250))
+            pieces.append(info[k:k + m])
+            k += m
+        j(*[block(x, ETX if y == len(pieces) - 1 else ETB if x[-1] == CR else US) for y, x in enumerate(pieces)])
+    j(block(b"A\r", ETX), block(b"B\r", ETX)), j(block(b"A", US), good[:-1], block(b"\r", ETX)), j(*([block(b"A" * 250, US)] * 9)), j(block(b"", ETX))
+    j(*([block(b"A" * 250, US)] * 8 + [b"\x02"])), j(*([block(b"A" * 250, US)] * 8 + [b"\xff" * 7])), j(block(b"A\r", ETX), b"\xff" * 7), j(block(b"A\r", ETX), b"\x02" * 7)
+
+
+def legal(info):
+    try:
+        judge(info)
+        return True
+    except Refused:
+        return False
+
+
+def main():
+    rng = random.Random(1861)
+    codec(rng)
+    here = os.path.join(os.path.dirname(os.path.abspath(__file__)), "..", "crates", "vectors")
+    for name, rows in (("stdin", calls), ("stdout", answers)):
+        with open(os.path.join(here, name), "w") as f:
+            f.write("\n".join(rows) + "\n")
+    print(len(calls), "calls")
+
+
+if __name__ == "__main__":
+    main()
