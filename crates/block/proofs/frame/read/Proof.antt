@@ -1,0 +1,135 @@
+-- `read` meets its contract: each return is the case of `readBlock` that the tests before it leave.
+use mathlib.Core.Bool.{true, _&&_}
+use mathlib.Core.Path.{_≡_, sym, _∙_}
+use borrow.Author.Tests.{lt-leb, le-leb, not-true, not-false}
+use lib.Dec.{leb}
+use lib.ListN.{length}
+use Rattle.line.specs.Character.{seven}
+use Rattle.line.specs.Test.{all}
+use Rattle.block.specs.Block.{framed, summing, readBlock}
+use Rattle.block.proofs.FrameLaws.{inside-part}
+use borrow.Author.Needs.{needs}
+use Rattle.block.proofs.frame.read.Statement.{statement}
+use Rattle.block.proofs.frame.read.Tie as tie
+
+-- the length is within the limits
+within : (c : tie.Else2) → let n = length (c .before .before .before .args .s .now) in (leb 6 n && leb n 256) ≡ true
+within c = rw (le-leb 6 _ (c .before .if1 .left), le-leb _ 256 (c .if2 .left))
+
+-- every byte is a 7-bit value
+narrow : (c : tie.Else3) → all seven (c .before .before .before .before .before .args .s .now) ≡ true
+narrow c = sym (c .before .is-seven-bit .ensures) ∙ not-false _ (c .if3 .left)
+
+-- the frame is right
+frame : (c : tie.Else4) → framed (c .before .before .before .before .before .before .before .args .s .now) ≡ true
+frame c = sym (c .before .is-framed .ensures) ∙ not-false _ (c .if4 .left)
+
+-- the check characters are right
+check : (c : tie.Else5) → summing (c .before .before .before .before .before .before .before .before .before .args .s .now) ≡ true
+check c = sym (c .before .is-summed .ensures) ∙ not-false _ (c .if5 .left)
+
+returns : tie.Need-returns
+unfolding readBlock
+returns c = rw (lt-leb 6 _ (c .if1 .taken))
+
+add-if2 : tie.Need-add-if2
+add-if2 c = search needs
+
+returns-2 : tie.Need-returns-2
+unfolding readBlock
+returns-2 c = rw (le-leb 6 _ (c .before .if1 .left), lt-leb _ 256 (c .if2 .taken))
+
+is-seven-bit-requires : tie.Need-is-seven-bit-requires
+is-seven-bit-requires c κs = search needs
+
+returns-3 : tie.Need-returns-3
+unfolding readBlock
+returns-3 c =
+    let wide = sym (c .before .is-seven-bit .ensures) ∙ not-true _ (c .if3 .taken) in
+    rw (within (c .before .before), wide)
+
+is-framed-requires : tie.Need-is-framed-requires
+is-framed-requires c κs = search needs
+
+returns-4 : tie.Need-returns-4
+unfolding readBlock
+returns-4 c =
+    let d = c .before .before in
+    let wrong = sym (c .before .is-framed .ensures) ∙ not-true _ (c .if4 .taken) in
+    rw (within (d .before .before), narrow d, wrong)
+
+is-summed-requires : tie.Need-is-summed-requires
+is-summed-requires c κs = search needs
+
+returns-5 : tie.Need-returns-5
+unfolding readBlock
+returns-5 c =
+    let d = c .before .before .before .before in
+    let wrong = sym (c .before .is-summed .ensures) ∙ not-true _ (c .if5 .taken) in
+    rw (within (d .before .before), narrow d, frame (c .before .before), wrong)
+
+sub-ending-of : tie.Need-sub-ending-of
+sub-ending-of c = search needs
+
+shared-slice-read-ending-of : tie.Need-shared-slice-read-ending-of
+shared-slice-read-ending-of c = search needs
+
+ending-of-requires : tie.Need-ending-of-requires
+ending-of-requires c κs = search needs
+
+sub-is-right : tie.Need-sub-is-right
+sub-is-right c = search needs
+
+sub-is-right-2 : tie.Need-sub-is-right-2
+sub-is-right-2 c = search needs
+
+part-is-right-start : tie.Need-part-is-right-start
+part-is-right-start c = search needs
+
+part-is-right-end : tie.Need-part-is-right-end
+part-is-right-end c = search needs
+
+is-right-requires : tie.Need-is-right-requires
+is-right-requires c κs = search needs
+
+returns-6 : tie.Need-returns-6
+unfolding readBlock
+returns-6 c =
+    let f = c .before .before .before .before .before in
+    let d = f .before .before .before .before in
+    let a = d .before .before .before .before .before .args in
+    let wrong = sym (c .before .is-right .ensures) ∙ not-true _ (c .if6 .taken) in
+    rw (within (d .before .before), narrow d, frame (f .before .before), check f, ← inside-part (a .s .now), ← c .before .before .before .ending-of .ensures, wrong)
+
+returns-7 : tie.Need-returns-7
+unfolding readBlock
+returns-7 c =
+    let f = c .before .before .before .before .before in
+    let d = f .before .before .before .before in
+    let a = d .before .before .before .before .before .args in
+    let good = sym (c .before .is-right .ensures) ∙ not-false _ (c .if6 .left) in
+    rw (within (d .before .before), narrow d, frame (f .before .before), check f, ← inside-part (a .s .now), ← c .before .before .before .ending-of .ensures, good)
+
+pub read-spec : {M : Type 1} → statement M
+read-spec =
+    tie.close
+    (tie.spec
+    returns
+    add-if2
+    returns-2
+    is-seven-bit-requires
+    returns-3
+    is-framed-requires
+    returns-4
+    is-summed-requires
+    returns-5
+    sub-ending-of
+    shared-slice-read-ending-of
+    ending-of-requires
+    sub-is-right
+    sub-is-right-2
+    part-is-right-start
+    part-is-right-end
+    is-right-requires
+    returns-6
+    returns-7)

@@ -1,0 +1,17 @@
+-- The checksum of a block and the three characters that carry it (documents 001 and 003).
+use mathlib.Core.List.{List, [], _∷_}
+use Prim.Native.Nat.{ℕ, _+_, _/_, _%_}
+use Rattle.line.specs.Parity.{sevenBits}
+
+-- the sum of the 7-bit values
+unfoldable pub sum : List ℕ → ℕ
+sum [] = 0
+sum (c ∷ cs) = sevenBits c + sum cs
+
+-- the sum modulo 4,096
+abbrev pub checksum : List ℕ → ℕ
+checksum cs = sum cs % 4096
+
+-- a checksum as three characters, 30 hex plus four bits each, highest first
+unfoldable pub checkCharacters : ℕ → List ℕ
+checkCharacters s = (0x30 + s / 256) ∷ (0x30 + s / 16 % 16) ∷ (0x30 + s % 16) ∷ []

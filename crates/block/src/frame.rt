@@ -1,0 +1,233 @@
+// One block: written from information and an ending, and read back.
+use crate::checksum::check_characters;
+use line::Refusal;
+use line::Written;
+use line::character::CR;
+use line::character::ETB;
+use line::character::ETX;
+use line::character::STX;
+use line::character::US;
+use line::character::is_seven_bit;
+use line::character::is_textual;
+use line::transaction::ends_in_cr;
+ghost use mathlib.Core.Path.{_≡_};
+ghost use Prim.Native.Nat.{_+_, _≤_};
+ghost use lib.ListN.{length};
+ghost use Rattle.line.specs.Answer.{Wrote, mapDone, output, overlay};
+ghost use Rattle.line.specs.Test.{all};
+ghost use Rattle.block.specs.Block.{blockOf, checkIn, checking, endingCharacter, endingOf, ends, framed, readAs, readBlock, right, summed, summing, writeBlock};
+
+// How a block ends.
+pub enum Ending {
+    // The transaction ends here.
+    Etx,
+    // It goes on, and the last field here is complete.
+    Etb,
+    // It goes on, and the last field here is broken.
+    Us,
+}
+
+// What a string is as a block.
+pub enum Reading {
+    Block(Ending),
+    Refused(Refusal),
+}
+
+// The most characters of information in a block.
+pub const INFORMATION: usize = 250;
+
+// The characters of a block besides its information.
+pub const OVERHEAD: usize = 6;
+
+// A block of the information with the ending.
+pub fn write(info: &[u8], ending: Ending, out: &mut [u8]) -> Written
+    ensures { λ r. ⌜ Wrote (writeBlock (now (info .entry)) ending (length (now (out .entry)))) r (now (out .entry)) (now (out .exit)) ⌝ }
+{
+    let n = info.len();
+    if out.len() < n + OVERHEAD {
+        return Written::Refused(Refusal::Size);
+    }
+    if INFORMATION < n {
+        return Written::Refused(Refusal::Length);
+    }
+    if !is_seven_bit(info) {
+        return Written::Refused(Refusal::Parity);
+    }
+    if !is_right(info, ending) {
+        return Written::Refused(Refusal::Information);
+    }
+    put_block(info, ending, out);
+    Written::Count(n + OVERHEAD)
+}
+
+// The ending of the block that the string is, with its parity taken off. `Information` is a block
+// in a right frame whose information is wrong; the other refusals are no block at all.
+pub fn read(s: &[u8]) -> Reading
+    ensures { λ r. ⌜ readAs r ≡ mapDone (λ g. g .ending) (readBlock (now (s .entry))) ⌝ }
+{
+    let n = s.len();
+    if n < OVERHEAD {
+        return Reading::Refused(Refusal::Length);
+    }
+    if INFORMATION + OVERHEAD < n {
+        return Reading::Refused(Refusal::Length);
+    }
+    if !is_seven_bit(s) {
+        return Reading::Refused(Refusal::Parity);
+    }
+    if !is_framed(s) {
+        return Reading::Refused(Refusal::Frame);
+    }
+    if !is_summed(s) {
+        return Reading::Refused(Refusal::Checksum);
+    }
+    let ending = ending_of(s[n - 5]);
+    if !is_right(&s[1..n - 5], ending) {
+        return Reading::Refused(Refusal::Information);
+    }
+    Reading::Block(ending)
+}
+
+// The information of the block that the string is: the part of it that follows STX. Nothing where
+// it is refused.
+pub fn information(s: &[u8]) -> &[u8]
+    ensures { λ r. ⌜ now r ≡ output (mapDone (λ g. g .info) (readBlock (now (s .entry)))) ⌝ }
+{
+    let Reading::Block(_) = read(s) else {
+        return &s[..0];
+    };
+    let n = s.len();
+    &s[1..n - 5]
+}
+
+pub(crate) fn put_block(info: &[u8], ending: Ending, out: &mut [u8])
+    requires { ⌜ length (now info) + 6 ≤ length (now out) ⌝ }
+    ensures { λ _. ⌜ now (out .exit) ≡ overlay (blockOf (now (info .entry)) ending) (now (out .entry)) ⌝ }
+{
+    let n = info.len() + 2;
+    put_summed(info, ending, out);
+    let check = check_characters(&out[..n]);
+    line::memory::copy(&check, &mut out[n..]);
+    out[n + 3] = CR;
+}
+
+// What the check is of: STX through the ending.
+fn put_summed(info: &[u8], ending: Ending, out: &mut [u8])
+    requires { ⌜ length (now info) + 2 ≤ length (now out) ⌝ }
+    ensures { λ _. ⌜ now (out .exit) ≡ overlay (summed (now (info .entry)) ending) (now (out .entry)) ⌝ }
+{
+    let n = info.len();
+    out[0] = STX;
+    line::memory::copy(info, &mut out[1..]);
+    out[n + 1] = ending_character(ending);
+}
+
+// The information's characters, and the rule of the ending.
+pub(crate) fn is_right(info: &[u8], ending: Ending) -> bool
+    ensures { λ r. ⌜ r ≡ right (now (info .entry)) ending ⌝ }
+{
+    if !is_textual(info) {
+        return false;
+    }
+    match ending {
+        Ending::Etx => ends_in_cr(info),
+        Ending::Etb => ends_in_cr(info),
+        Ending::Us => {
+            if info.len() == 0 {
+                return false;
+            }
+            !ends_in_cr(info)
+        }
+    }
+}
+
+fn is_framed(s: &[u8]) -> bool
+    requires { ⌜ 6 ≤ length (now s) ⌝ }
+    ensures { λ r. ⌜ r ≡ framed (now (s .entry)) ⌝ }
+{
+    let n = s.len();
+    if s[0] != STX {
+        return false;
+    }
+    if !is_ending(s[n - 5]) {
+        return false;
+    }
+    if !has_check(s) {
+        return false;
+    }
+    s[n - 1] == CR
+}
+
+// The three characters before the last can carry a checksum.
+fn has_check(s: &[u8]) -> bool
+    requires { ⌜ 6 ≤ length (now s) ⌝ }
+    ensures { λ r. ⌜ r ≡ all checking (checkIn (now (s .entry))) ⌝ }
+{
+    let n = s.len();
+    if !is_check(s[n - 4]) {
+        return false;
+    }
+    if !is_check(s[n - 3]) {
+        return false;
+    }
+    is_check(s[n - 2])
+}
+
+// The check characters are those of what stands before them.
+fn is_summed(s: &[u8]) -> bool
+    requires { ⌜ 6 ≤ length (now s) ⌝ }
+    ensures { λ r. ⌜ r ≡ summing (now (s .entry)) ⌝ }
+{
+    let n = s.len();
+    let check = check_characters(&s[..n - 4]);
+    if s[n - 4] != check[0] {
+        return false;
+    }
+    if s[n - 3] != check[1] {
+        return false;
+    }
+    s[n - 2] == check[2]
+}
+
+fn is_ending(c: u8) -> bool
+    ensures { λ r. ⌜ r ≡ ends c ⌝ }
+{
+    if c == ETX {
+        return true;
+    }
+    if c == ETB {
+        return true;
+    }
+    c == US
+}
+
+fn is_check(c: u8) -> bool
+    ensures { λ r. ⌜ r ≡ checking c ⌝ }
+{
+    if c < 0x30 {
+        return false;
+    }
+    c <= 0x3F
+}
+
+fn ending_of(c: u8) -> Ending
+    ensures { λ r. ⌜ r ≡ endingOf c ⌝ }
+{
+    if c == ETX {
+        return Ending::Etx;
+    }
+    if c == ETB {
+        return Ending::Etb;
+    }
+    Ending::Us
+}
+
+fn ending_character(ending: Ending) -> u8
+    ensures { λ r. ⌜ r ≡ endingCharacter ending ⌝ }
+{
+    match ending {
+        Ending::Etx => ETX,
+        Ending::Etb => ETB,
+        Ending::Us => US,
+    }
+}

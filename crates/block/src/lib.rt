@@ -1,0 +1,7 @@
+// Blocks of the TAP protocol: the checksum, writing and reading a block, cutting a transaction into
+// blocks and joining it again.
+pub mod checksum;
+pub mod frame;
+
+pub use frame::Ending;
+pub use frame::Reading;
