@@ -51,3 +51,7 @@ printable c = leb 0x20 c && leb c 0x7E
 -- a character of a transaction's information: 20 to 7E, or CR
 abbrev pub textual : ℕ → Bool
 textual c = printable c || eqb c CR
+
+-- a letter or digit
+abbrev pub alphanumeric : ℕ → Bool
+alphanumeric c = leb 0x30 c && leb c 0x39 || leb 0x41 c && leb c 0x5A || leb 0x61 c && leb c 0x7A

@@ -1,6 +1,7 @@
 pub mod Answer
 pub mod Character
 pub mod Parity
+pub mod Password
 pub mod Test
 pub mod Transaction
 pub mod Text

@@ -1,6 +1,6 @@
 // The control characters of the protocol, as 7-bit values, and tests of characters.
 ghost use mathlib.Core.Path.{_≡_};
-ghost use Rattle.line.specs.Character.{seven, textual};
+ghost use Rattle.line.specs.Character.{alphanumeric, seven, textual};
 ghost use Rattle.line.specs.Test.{all};
 
 pub const STX: u8 = 0x02;
@@ -39,6 +39,20 @@ pub fn is_seven_bit(text: &[u8]) -> bool
     true
 }
 
+// Every byte is a letter or digit.
+pub fn is_alphanumeric(text: &[u8]) -> bool
+    ensures { λ r. ⌜ r ≡ all alphanumeric (now (text .entry)) ⌝ }
+{
+    let mut i = 0;
+    while i < text.len() {
+        if !is_letter_or_digit(text[i]) {
+            return false;
+        }
+        i += 1;
+    }
+    true
+}
+
 // Every byte is a character of a transaction's information: 20 to 7E, or CR.
 pub fn is_textual(text: &[u8]) -> bool
     ensures { λ r. ⌜ r ≡ all textual (now (text .entry)) ⌝ }
@@ -51,6 +65,27 @@ pub fn is_textual(text: &[u8]) -> bool
         i += 1;
     }
     true
+}
+
+fn is_letter_or_digit(c: u8) -> bool
+    ensures { λ r. ⌜ r ≡ alphanumeric c ⌝ }
+{
+    if c < 0x30 {
+        return false;
+    }
+    if c <= 0x39 {
+        return true;
+    }
+    if c < 0x41 {
+        return false;
+    }
+    if c <= 0x5A {
+        return true;
+    }
+    if c < 0x61 {
+        return false;
+    }
+    c <= 0x7A
 }
 
 fn is_information(c: u8) -> bool

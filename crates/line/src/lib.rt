@@ -4,7 +4,9 @@ pub mod answer;
 pub mod character;
 pub mod memory;
 pub mod parity;
+pub mod password;
 pub mod transaction;
 
 pub use answer::Refusal;
 pub use answer::Written;
+pub use password::Password;
