@@ -8,8 +8,8 @@ use native.Mathlib.Nat.{not-suc-le-zero, le-of-suc-le-suc}
 use native.Mathlib.Numerals.{add-one}
 use lib.ListN.{length, getD, take, drop, drop-of-length-le, take-append-drop}
 use lib.Seq.{drop-cons}
-use borrow.Author.Tests.{eqb-true, eq-eqb}
-use lib.Dec.{eqb}
+use borrow.Author.Tests.{eqb-true, eq-eqb, leb-true, leb-false}
+use lib.Dec.{eqb, leb}
 use Rattle.line.specs.Test.{all, same}
 
 -- a loop that has passed the members below i: the rest decides
@@ -110,3 +110,12 @@ pub same-self : (xs : List ℕ) → same xs xs ≡ true
 unfolding same
 same-self [] = refl
 same-self (x ∷ xs) = rw (eq-eqb x x refl, same-self xs)
+
+-- nothing is left exactly from the end on
+pub none-left : (xs : List ℕ) (i : ℕ) → same (drop i xs) [] ≡ leb (length xs) i
+unfolding same
+none-left xs i = go (leb (length xs) i) refl
+  where
+    go : (b : Bool) → leb (length xs) i ≡ b → same (drop i xs) [] ≡ b
+    go true e = rw (drop-of-length-le xs (leb-true _ _ e))
+    go false e = rw (drop-cons xs i 0 (leb-false _ _ e))

@@ -7,8 +7,9 @@ use native.Mathlib.Numerals.{add-one}
 use native.Mathlib.Omega.{arith}
 use lib.ListN.{length, getD, take, drop, set, length-append, length-drop, length-map, drop-of-length-le}
 use lib.Seq.{drop-cons, take-all, take-suc, set-at, take-at, drop-at, length-take-le, drop-drop}
-use Rattle.line.specs.Answer.{Outcome, done, refused, overlay, output, mapDone, Wrote, refusalNumber}
+use Rattle.line.specs.Answer.{Outcome, done, refused, overlay, writtenAs, Wrote, refusalNumber}
 use Rattle.line.specs.declared.answer.Refusal.{Refusal}
+use Rattle.line.specs.declared.answer.Written.{Written}
 use Rattle.line.specs.declared.answer.Written.the-variants.{Count, Refused}
 
 -- nothing laid over
@@ -74,3 +75,18 @@ wrote-refused r m e = record { answers = rw e; leaves = rw e (overlay-none m) }
 -- the count of what was laid over the start
 pub wrote-done : {o : Outcome (List ℕ)} (xs : List ℕ) (n : ℕ) (before after : List ℕ) → o ≡ done xs → n ≡ length xs → after ≡ overlay xs before → Wrote o (Count n) before after
 wrote-done xs n before after e c l = record { answers = rw (e, c) refl; leaves = rw e l }
+
+-- what a refused writer was asked is refused
+pub refused-only : (o : Outcome (List ℕ)) {r : Written} {before after : List ℕ} (q : Refusal) → r ≡ Refused q → Wrote o r before after → o ≡ refused (refusalNumber q)
+refused-only (done xs) q e w = cc (w .answers, ap writtenAs e)
+refused-only (refused n) q e w = cc (w .answers, ap writtenAs e)
+
+-- what a writer counted lies at the start of the memory
+pub counted-start : (o : Outcome (List ℕ)) {r : Written} {before after : List ℕ} (n : ℕ) → r ≡ Count n → Wrote o r before after → (n ≤ length after) × (o ≡ done (take n after))
+unfolding overlay
+counted-start (done xs) {after} n e w =
+    let counts : length xs ≡ n = cc (w .answers, ap writtenAs e) in
+    (rw (w .leaves, length-append) (omega arith), ap done (sym (rw (w .leaves) (overlay-start xs _ n counts))))
+counted-start (refused m) n e w =
+    let never : _≡_ {A = ℕ} 0 1 = cc (w .answers, ap writtenAs e) in
+    absurd (omega arith)

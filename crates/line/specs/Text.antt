@@ -1,6 +1,6 @@
 -- Texts as the bytes of their characters.
 use mathlib.Core.List.{List}
-use Prim.Native.Char.{Char, code}
+use Prim.Native.Char.{code}
 use Prim.Native.Nat.{ℕ}
 use Prim.Native.String.{String, [], _∷_}
 

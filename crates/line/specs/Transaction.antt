@@ -5,7 +5,7 @@ use mathlib.Core.Path.{_≡_}
 use Prim.Native.Nat.{ℕ, _≤_}
 use lib.Dec.{leb, eqb}
 use lib.ListN.{length}
-use Rattle.line.specs.Answer.{Outcome, done, refused}
+use Rattle.line.specs.Answer.{Outcome, refused}
 use Rattle.line.specs.Character.{CR, seven, printable, textual}
 use Rattle.line.specs.Test.{if_then_else_, all}
 

@@ -1,5 +1,4 @@
 -- `is_letter_or_digit` meets its contract: each return lies in one span of the bytes, between the ends of the three that pass.
-use mathlib.Core.Bool.{or-false}
 use native.Mathlib.Omega.{arith}
 use borrow.Author.Tests.{lt-leb, le-leb}
 use Rattle.line.proofs.character.is_letter_or_digit.Statement.{statement}

@@ -1,7 +1,7 @@
 -- `put` meets its contract: after i turns the first i bytes lie over the start of the output.
-use mathlib.Core.Path.{_≡_, refl, ap, sym, _∙_}
-use mathlib.Core.List.{List, map}
-use Prim.Native.Nat.{ℕ, _≤_, _-_}
+use mathlib.Core.Path.{_≡_, refl, _∙_}
+use mathlib.Core.List.{map}
+use Prim.Native.Nat.{_≤_, _-_}
 use lib.ListN.{length, take, length-set}
 use Rattle.line.specs.Answer.{overlay}
 use Rattle.line.proofs.OverlayLaws.{overlay-none, laid-next, laid-whole, map-self}

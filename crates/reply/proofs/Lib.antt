@@ -1,0 +1,4 @@
+pub mod GrammarLaws
+pub mod LinesLaws
+pub mod TestLaws
+pub mod TextLaws
