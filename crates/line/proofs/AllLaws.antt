@@ -1,16 +1,17 @@
 -- Laws of `all`, the test of every member of a list: as a loop makes it, over an append, at a member, from one test to a weaker one, and over a map.
--- And of `same`: it decides that two lists are equal.
+-- And of `same`, which decides that two lists are equal, and `before`, the place of a member.
 use mathlib.Core.Bool.{Bool, true, false, _&&_, false≢true, and-assoc, and-eq-true-iff}
 use mathlib.Core.List.{List, [], _∷_, _++_, map}
 use mathlib.Core.Path.{_≡_, refl, sym, _∙_}
 use Prim.Native.Nat.{ℕ, zero, suc, _+_, _≤_, _<_}
 use native.Mathlib.Nat.{not-suc-le-zero, le-of-suc-le-suc}
 use native.Mathlib.Numerals.{add-one}
+use native.Mathlib.Omega.{arith}
 use lib.ListN.{length, getD, take, drop, drop-of-length-le, take-append-drop}
 use lib.Seq.{drop-cons}
-use borrow.Author.Tests.{eqb-true, eq-eqb, leb-true, leb-false}
+use borrow.Author.Tests.{eqb-true, eq-eqb, ne-eqb, leb-true, leb-false}
 use lib.Dec.{eqb, leb}
-use Rattle.line.specs.Test.{all, same}
+use Rattle.line.specs.Test.{all, same, before}
 
 -- a loop that has passed the members below i: the rest decides
 module _ (p : ℕ → Bool) (xs : List ℕ) (i : ℕ) (rest : all p xs ≡ all p (drop i xs)) where
@@ -119,3 +120,22 @@ none-left xs i = go (leb (length xs) i) refl
     go : (b : Bool) → leb (length xs) i ≡ b → same (drop i xs) [] ≡ b
     go true e = rw (drop-of-length-le xs (leb-true _ _ e))
     go false e = rw (drop-cons xs i 0 (leb-false _ _ e))
+
+-- a loop that looks for a member: it stands here, or further on, or nowhere
+module _ (y : ℕ) (xs : List ℕ) (i : ℕ) where
+  -- the member at i is the one
+  pub before-here : getD xs i 0 ≡ y → i < length xs → before y (drop i xs) ≡ 0
+  unfolding before
+  before-here e h = rw (drop-cons xs i 0 h, eq-eqb (getD xs i 0) y e)
+
+  -- the member at i is another
+  pub before-further : (getD xs i 0 ≡ y → ⊥) → i < length xs → i + before y (drop i xs) ≡ i + 1 + before y (drop (i + 1) xs)
+  unfolding before
+  before-further e h =
+      let step : before y (drop i xs) ≡ suc (before y (drop (i + 1) xs)) = rw (add-one, drop-cons xs i 0 h, ne-eqb (getD xs i 0) y e) in
+      omega arith
+
+  -- none is left
+  pub before-none : length xs ≤ i → before y (drop i xs) ≡ 0
+  unfolding before
+  before-none h = rw (drop-of-length-le xs h)

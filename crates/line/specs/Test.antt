@@ -1,7 +1,7 @@
--- Tests: a choice by one, one of every member of a list, and whether two lists are the same.
+-- Tests: a choice by one, one of every member of a list, whether two lists are the same, and where a member stands.
 use mathlib.Core.Bool.{Bool, true, false, _&&_}
 use mathlib.Core.List.{List, [], _∷_}
-use Prim.Native.Nat.{ℕ}
+use Prim.Native.Nat.{ℕ, suc}
 use lib.Dec.{eqb}
 
 infixr 20 if_then_else_
@@ -21,3 +21,8 @@ same [] [] = true
 same [] (y ∷ ys) = false
 same (x ∷ xs) [] = false
 same (x ∷ xs) (y ∷ ys) = eqb x y && same xs ys
+
+-- how many members stand before the first y
+unfoldable pub before : ℕ → List ℕ → ℕ
+before y [] = 0
+before y (x ∷ xs) = if eqb x y then 0 else suc (before y xs)

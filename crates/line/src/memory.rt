@@ -1,10 +1,11 @@
-// Copies into lent memory.
+// Lent memory: copies into it, and searches in it.
 use crate::answer::Refusal;
 use crate::answer::Written;
 ghost use mathlib.Core.Path.{_≡_};
-ghost use Prim.Native.Nat.{_≤_};
-ghost use lib.ListN.{length};
+ghost use Prim.Native.Nat.{_+_, _≤_};
+ghost use lib.ListN.{drop, length};
 ghost use Rattle.line.specs.Answer.{Wrote, copied, overlay};
+ghost use Rattle.line.specs.Test.{before};
 
 // All of the bytes, at the start of the output.
 pub fn copy(bytes: &[u8], out: &mut [u8]) -> Written
@@ -26,4 +27,18 @@ fn put(bytes: &[u8], out: &mut [u8])
         out[i] = bytes[i];
         i += 1;
     }
+}
+
+// The place of the first such byte, from a place on; the end where there is none.
+pub fn find(bytes: &[u8], from: usize, byte: u8) -> usize
+    ensures { λ r. ⌜ r ≡ from + before byte (drop from (now (bytes .entry))) ⌝ }
+{
+    let mut i = from;
+    while i < bytes.len() {
+        if bytes[i] == byte {
+            return i;
+        }
+        i += 1;
+    }
+    i
 }
