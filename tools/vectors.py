@@ -1,5 +1,5 @@
 #!/usr/bin/env python3
-"""Writes crates/vectors/stdin and crates/vectors/stdout: calls, and what document 01 says comes of each.
+"""Writes crates/vectors/stdin and stdout: calls, and what document 01 says comes of each; and the same of the lines that crates/blocks reads.
 
 The answers come from a model of document 01 that is written here in Python, from the paper and not from the Rattle sources, and from the
 numbers that the paper prints, which are asserted below. The program `vectors` makes the calls on the proved functions; the gate compares.
@@ -7,7 +7,7 @@ numbers that the paper prints, which are asserted below. The program `vectors` m
 A line of stdin is a call: a letter, then arguments with a space before each. Bytes are hex pairs; `*` and four hex digits behind a pair repeat it;
 no bytes are `-`. A number is bytes too, high first.
 """
-import os, random
+import os, random, re
 
 STX, ETX, EOT, ACK, LF, CR, NAK, ETB, ESC, RS, US = 2, 3, 4, 6, 0x0A, 0x0D, 0x15, 0x17, 0x1B, 0x1E, 0x1F
 ENDINGS = {"x": ETX, "b": ETB, "u": US}
@@ -293,13 +293,195 @@ def legal(info):
         return False
 
 
+# ── replies ──
+LINE = rb"[ -~]*\r\n?"
+CODES = {"ack": rb"\x06", "nak": rb"\x15", "rs": rb"\x1e", "eot": rb"\x1b\x04"}
+
+
+def meaning(data):
+    """The grammar of "What the desk may read", as regular expressions over the 7-bit values."""
+    if len(data) > 256 or any(bin(x).count("1") % 2 for x in data):
+        return "unrecognized"
+    text = bytes(x & 0x7F for x in data)
+    found = [name for name, code in CODES.items() if re.fullmatch(rb"(?:%s)*%s\r\n?" % (LINE, code), text)]
+    if re.fullmatch(rb"(?:%s)*\x06\r\n?(?:%s)*\x1b\[p\r\n?" % (LINE, LINE), text):
+        found.append("acceptance")
+    if re.fullmatch(rb"ID= ?(?:\r\n?)?", text):
+        found.append("id request")
+    assert len(found) < 2
+    return found[0] if found else "unrecognized"
+
+
+def y(data):
+    call("y", hexed(data), answer=lambda: meaning(data))
+
+
+def z(text):
+    y(bytes(map(with_parity, text)))
+
+
+def replies(rng):
+    assert meaning(bytes(map(with_parity, b"\x06\r"))) == "ack" and meaning(bytes(map(with_parity, b"\r\x06"))) == "unrecognized"
+    assert meaning(bytes(map(with_parity, b"OK\r\x1e\r\n"))) == "rs" and meaning(bytes(map(with_parity, b"\x06\r\r"))) == "unrecognized"
+    for x in range(256):
+        y(bytes([x]))
+    codes = (b"\x06", b"\x15", b"\x1e", b"\x1b\x04", b"\x1b[p", b"\x1b", b"\x1b[", b"\x06\x06", b"\x06\x15", b"")
+    lines = (b"", b"\r", b"OK\r", b"OK\r\n", b"\r\nID123 not known\r\r\n", b"A\x06B\r", b"\x06\r", b"\x06\r\n", b"\x06\rwait\r", b"\n", b"OK", b"OK\n", b"\x7f\r", b"\r\n\n")
+    for before in lines:
+        for code in codes:
+            for end in (b"", b"\r", b"\r\n", b"\n", b"\r\r", b"\r\n\r", b"\r\n\n", b"\rX", b"\r\x06\r"):
+                z(before + code + end)
+    acceptance = b"\r\x06\r\x1b[p\r"
+    for i in range(len(acceptance) + 1):
+        z(acceptance[:i])
+        z(acceptance[i:])
+    for i in range(len(acceptance)):
+        for x in (acceptance[i] ^ 1, acceptance[i] ^ 0x20, 0x0D, 0x0A):
+            z(acceptance[:i] + bytes([x]) + acceptance[i + 1:])
+    for text in (b"ID=", b"ID= ", b"ID=\r", b"ID=\r\n", b"ID= \r", b"ID= \r\n", b"ID=  ", b"ID=  \r", b"ID=\n", b"ID=\r\r", b"ID", b"id=", b" ID=", b"\rID=", b"ID=A", b"ID= A\r", b"ID= \n"):
+        z(text)
+    for n in (253, 254, 255):
+        z(b"A" * n + b"\r\x06\r"), z(b"A" * (n - 1) + b"\r\n\x06\r\n"), z(b"\r" * n + b"\x06\r"), z(b"A" * (n + 3))
+    for _ in range(400):
+        text = bytes(rng.choice(b"\r\r\n\x06\x15\x1e\x1b\x04[pID= A") for _ in range(rng.randint(1, 9)))
+        z(text)
+        line = bytearray(map(with_parity, text))
+        line[rng.randrange(len(line))] ^= 1 << rng.randrange(8)
+        y(bytes(line))
+
+
+# ── the journal ──
+def two(n):
+    return bytes([n >> 8, n & 255])
+
+
+def encode(ts):
+    records = b"".join(t + two(len(t)) for t in ts)
+    return records + two(len(ts)) + two(len(records))
+
+
+def decode(b):
+    """The transactions, oldest first, walking back from the trailer."""
+    if len(b) < 4:
+        raise Refused(7)
+    count, size = b[-4] << 8 | b[-3], b[-2] << 8 | b[-1]
+    if count > 64 or size > 32000 or size + 4 != len(b):
+        raise Refused(7)
+    end, ts = size, []
+    for _ in range(count):
+        if end < 2:
+            raise Refused(7)
+        n = b[end - 2] << 8 | b[end - 1]
+        if end - 2 < n or not legal(b[end - 2 - n:end - 2]):
+            raise Refused(7)
+        ts.insert(0, b[end - 2 - n:end - 2])
+        end -= n + 2
+    if end:
+        raise Refused(7)
+    return ts
+
+
+def append(b, t, size):
+    """The journal b with t appended, in a buffer of so many bytes."""
+    if size != 32004:
+        raise Refused(1)
+    ts = decode(b)
+    judge(t)
+    if len(ts) + 1 > 64 or len(b) - 4 + len(t) + 2 > 32000:
+        raise Refused(8)
+    return encode(ts + [t])
+
+
+def digest(b):
+    """A long answer by its length and a sum that tells places apart."""
+    return "%d %d" % (len(b), sum((i + 1) * x for i, x in enumerate(b)) % 1000003)
+
+
+def k(b):
+    call("k", hexed(b), answer=lambda: "%d" % len(decode(b)))
+    for i in (0, 1, 63):
+        def pick(ts, i):
+            return plain(ts[i]) if i < len(ts) else "-"
+        def listed(b):
+            try:
+                return decode(b)
+            except Refused:
+                return []
+        call("n", number(i), hexed(b), answer=lambda: pick(listed(b)[::-1], i))
+        call("o", number(i), hexed(b), answer=lambda: pick(listed(b), i))
+
+
+def a(b, t, size=32004):
+    call("a", number(size), hexed(b), hexed(t), answer=lambda: digest(append(b, t, size)))
+
+
+def journal(rng):
+    assert encode([b"123\rABC\r"]) == bytes.fromhex("3132330d4142430d0008" "0001000a") and encode([]) == bytes(4)
+    page = b"123\rABC\r"
+    good = encode([page, b"7\r\r", b"\r"])
+    for b in (encode([]), encode([page]), good, encode([page] * 64), b"", b"\0" * 3, b"\0" * 5):
+        k(b)
+        a(b, page)
+    full = encode([b"A" * 1998 + b"\r"] * 15 + [b"A" * 1983 + b"\r"] + [b"\r"])
+    for n in (11, 12, 13, 14, 15, 16):
+        ts = [b"A" * 1997 + b"\r"] * 15 + [b"B" * (1998 - n) + b"\r"]
+        b = encode(ts)
+        a(b, b"C" * 9 + b"\r")
+        a(b, b"C" * 10 + b"\r")
+    k(encode([b"A" * 1997 + b"\r"] * 16)), k(encode([b"A" * 1997 + b"\r"] * 15 + [b"A" * 1998 + b"\r"])), k(full), k(encode([page] * 65))
+    k(b"\0\0" + two(1) + two(2)), k(b"A" * 2000 + b"\r" + two(2001) + two(1) + two(2003)), k(b"\r" + two(2) + two(1) + two(3)), k(b"AA" + two(2) + two(1) + two(4))
+    for i in range(1, 5):
+        for d in (-1, 1):
+            b = bytearray(good)
+            b[-i] = (b[-i] + d) % 256
+            k(bytes(b))
+    for i in range(len(good)):
+        for x in (0, 13, 255, good[i] ^ 1):
+            k(good[:i] + bytes([x]) + good[i + 1:])
+    k(good + b"\0"), k(good[1:]), k(b"\r" + good)
+    for n in range(41):
+        k(bytes(rng.randrange(256) for _ in range(n))), k(bytes(n))
+    for t in (b"", b"A", b"A\r", b"\r", b"\x80\r", b"\x80" * 2001, b"\x1f\r", b"A" * 1999 + b"\r", b"A" * 2000 + b"\r"):
+        a(good, t), a(good[:-1], t), a(good, t, 32003), a(good, t, 32005), a(good[:-1], t, 4)
+    a(encode([page] * 63), page), a(encode([page] * 64), page), a(encode([page] * 64), b"A")
+
+
+# ── the program blocks ──
+def listing(text):
+    if len(text) > 1999:
+        return b"refused 2\n"
+    if any(x > 0x7F for x in text):
+        return b"refused 3\n"
+    if b" " not in text or any(not 0x20 <= x <= 0x7E for x in text):
+        return b"refused 6\n"
+    first, second = text.split(b" ", 1)
+    names = {STX: b"<STX>", ETX: b"<ETX>", ETB: b"<ETB>", US: b"<US>", CR: b"<CR>"}
+    return b"".join(b"".join(names.get(x, bytes([x])) for x in block(*g)) + b"\n" for g in cut(first + b"\r" + second + b"\r"))
+
+
+def lines(rng):
+    rows = [b"123 ABC", b"7 ", b"none", b"", b" ", b"  ", b" A", b"1  A", b"1 TEST", b"123 \x7f", b"123 \x80", b"\x80", b"1\r2 3", b"a\0b c", b"\t x", b"1 <STX>", b"1 ~}|{", b"9" * 249 + b" X", b"9" * 2001 + b"\x80"]
+    rows += [b"1 " + b"A" * n for n in (246, 247, 248, 249, 496, 497, 498, 499, 1996, 1997, 1998, 1999)] + [b"A" * n for n in (1998, 1999, 2000, 2001)]
+    rows += [b"A" * n + b" " for n in (1997, 1998, 1999, 2000)] + [b"A" * n + b" \x80" for n in (1997, 1998)] + [b"B" * 70000, b"C " + b"D" * 70000]
+    rows += [bytes(rng.choice(b" 19Az~\x1f\x7f\x80") for _ in range(rng.randint(0, 12))) for _ in range(300)]
+    rows += [b"%d " % rng.randrange(10 ** 8) + bytes(rng.choice(b" AZaz09,.") for _ in range(rng.randint(0, 900))) for _ in range(120)]
+    assert b"".join(map(listing, rows[:3])) == b"<STX>123<CR>ABC<CR><ETX>17;<CR>\n<STX>7<CR><CR><ETX>056<CR>\nrefused 6\n"
+    rows += [b"12 last line without its end"]
+    return b"\n".join(rows), b"".join(map(listing, rows))
+
+
 def main():
     rng = random.Random(1861)
     codec(rng)
-    here = os.path.join(os.path.dirname(os.path.abspath(__file__)), "..", "crates", "vectors")
-    for name, rows in (("stdin", calls), ("stdout", answers)):
-        with open(os.path.join(here, name), "w") as f:
-            f.write("\n".join(rows) + "\n")
+    replies(rng)
+    journal(rng)
+    program = lines(rng)
+    crates = os.path.join(os.path.dirname(os.path.abspath(__file__)), "..", "crates")
+    vectors = ["\n".join(rows + [""]).encode() for rows in (calls, answers)]
+    for crate, files in (("vectors", vectors), ("blocks", program)):
+        for name, content in zip(("stdin", "stdout"), files):
+            with open(os.path.join(crates, crate, name), "wb") as f:
+                f.write(content)
     print(len(calls), "calls")
 
 

@@ -59,6 +59,12 @@ all-at p [] i e h = absurd (not-suc-le-zero h)
 all-at p (x ∷ xs) zero e h = and-eq-true-iff (p x) (all p xs) .0 e .0
 all-at p (x ∷ xs) (suc i) e h = all-at p xs i (and-eq-true-iff (p x) (all p xs) .0 e .1) (le-of-suc-le-suc h)
 
+-- a test that each member passes
+pub all-each : (p : ℕ → Bool) (xs : List ℕ) → ((i : ℕ) → p (getD xs i 0) ≡ true) → all p xs ≡ true
+unfolding all
+all-each p [] h = refl
+all-each p (x ∷ xs) h = rw (h zero, all-each p xs (λ i. h (suc i)))
+
 -- where one fails, not all pass
 pub all-fails : (p : ℕ → Bool) (xs : List ℕ) (i : ℕ) → p (getD xs i 0) ≡ false → i < length xs → all p xs ≡ false
 all-fails p xs i e h = go (all p xs) refl

@@ -27,6 +27,11 @@ pub overlay-start : (a m : List ℕ) (n : ℕ) → length a ≡ n → take n (ov
 unfolding overlay
 overlay-start a m n e = take-at a (drop (length a) m) n e
 
+-- what lies over the start of the memory in two parts: the second lies over the rest
+pub overlay-append : (a b m : List ℕ) → overlay (a ++ b) m ≡ a ++ overlay b (drop (length a) m)
+unfolding overlay
+overlay-append a b m = rw (length-append a b, append-assoc, drop-drop)
+
 -- one byte more, stored right behind
 pub overlay-snoc : (a m : List ℕ) (n v : ℕ) → length a ≡ n → n < length m → set (overlay a m) n v ≡ overlay (a ++ v ∷ []) m
 unfolding overlay

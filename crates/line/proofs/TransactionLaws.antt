@@ -161,3 +161,23 @@ of-done t o x h = go (leb 1 (length t) && leb (length t) 2000) (all seven t) (al
     go true true false e h = (cc, cc)
     go true false a e h = (cc, cc)
     go false s a e h = (cc, cc)
+
+-- information that is refused is refused whatever is done with it
+pub of-refused : {A B : Type 0} (t : List ℕ) (x : A) (k : ℕ) (o : Outcome B) → ofTransaction t (done x) ≡ refused k → ofTransaction t o ≡ refused k
+unfolding ofTransaction
+of-refused {A} {B} t x k o = go (leb 1 (length t) && leb (length t) 2000) (all seven t) (all textual t && endsInCR t)
+  where
+    go : (n s e : Bool) → (if not n then refused 2 else if not s then refused 3 else if not e then refused 6 else done x) ≡ refused k →
+        (if not n then refused 2 else if not s then refused 3 else if not e then refused 6 else o) ≡ refused k
+    go true true true h = cc
+    go true true false h = cc
+    go true false e h = cc
+    go false s e h = cc
+
+-- a refusal is that of information which is no transaction
+pub refused-illegal : {A : Type 0} (t : List ℕ) (x : A) (k : ℕ) → ofTransaction t (done x) ≡ refused k → legal t ≡ false
+refused-illegal t x k e = go (legal t) refl
+  where
+    go : (l : Bool) → legal t ≡ l → l ≡ false
+    go false q = refl
+    go true q = let d = of-legal t (done x) q in cc

@@ -1,0 +1,10 @@
+pub mod ListLaws
+pub mod NumberLaws
+pub mod RecordLaws
+pub mod WalkLaws
+pub mod EncodingLaws
+pub mod AppendLaws
+pub mod CursorLaws
+pub mod StepLaws
+pub mod ReadLaws
+pub mod WriteLaws

@@ -1,0 +1,46 @@
+-- A journal (document 01's book) is a list of legal transactions, oldest first. This is what its bytes are.
+use mathlib.Core.Bool.{Bool, true, _&&_}
+use mathlib.Core.List.{List, [], _∷_, _++_}
+use mathlib.Core.Path.{_≡_}
+use Prim.Native.Nat.{ℕ, _+_, _/_, _%_, _≤_}
+use lib.Dec.{leb}
+use lib.ListN.{length}
+use Rattle.line.specs.Transaction.{legal}
+
+-- a number in two bytes, high first
+abbrev pub twoBytes : ℕ → List ℕ
+twoBytes n = (n / 256) ∷ (n % 256) ∷ []
+
+-- a record: a transaction's information and, behind it, its length
+unfoldable pub recordOf : List ℕ → List ℕ
+recordOf t = t ++ twoBytes (length t)
+
+-- records one after the other, oldest first
+unfoldable pub recordsOf : List (List ℕ) → List ℕ
+recordsOf [] = []
+recordsOf (t ∷ ts) = recordOf t ++ recordsOf ts
+
+-- the bytes of a journal: its records, then the trailer: the number of records and the number of bytes of all records
+unfoldable pub encode : List (List ℕ) → List ℕ
+encode ts = recordsOf ts ++ twoBytes (length ts) ++ twoBytes (length (recordsOf ts))
+
+-- every one is a legal transaction
+unfoldable pub allLegal : List (List ℕ) → Bool
+allLegal [] = true
+allLegal (t ∷ ts) = legal t && allLegal ts
+
+-- legal transactions within the limits: at most 64 records and 32,000 bytes of records
+pub record Journal (ts : List (List ℕ)) : Type 0 where
+  pub each : allLegal ts ≡ true
+  pub few : length ts ≤ 64
+  pub small : length (recordsOf ts) ≤ 32000
+
+-- bytes that are a journal's
+pub record WellFormed (bytes : List ℕ) : Type 0 where
+  pub transactions : List (List ℕ)
+  pub journal : Journal transactions
+  pub encoded : bytes ≡ encode transactions
+
+-- there is room for one more transaction of so many characters
+abbrev pub hasRoom : List (List ℕ) → ℕ → Bool
+hasRoom ts n = leb (length ts + 1) 64 && leb (length (recordsOf ts) + (n + 2)) 32000

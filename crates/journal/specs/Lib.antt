@@ -1,0 +1,4 @@
+pub mod Encoding
+pub mod Walk
+pub mod Append
+pub mod Cursor

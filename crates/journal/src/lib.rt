@@ -1,0 +1,10 @@
+// The journal of stored transactions (document 01's book): records, each with its length behind it,
+// and a trailer that points back.
+pub mod append;
+pub mod cursor;
+pub mod record;
+
+pub use cursor::Opened;
+pub use cursor::Place;
+pub use cursor::Position;
+pub use cursor::Step;
