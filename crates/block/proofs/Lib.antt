@@ -1,1 +1,4 @@
 pub mod FrameLaws
+pub mod ListingLaws
+pub mod ReassemblyLaws
+pub mod SegmentationLaws

@@ -1,2 +1,5 @@
-pub mod Checksum
 pub mod Block
+pub mod Checksum
+pub mod Listing
+pub mod Segmentation
+pub mod Reassembly

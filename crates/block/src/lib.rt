@@ -2,6 +2,11 @@
 // blocks and joining it again.
 pub mod checksum;
 pub mod frame;
+pub mod listing;
+pub mod reassembly;
+pub mod segmentation;
 
 pub use frame::Ending;
 pub use frame::Reading;
+pub use reassembly::Reassembled;
+pub use reassembly::Reassembly;

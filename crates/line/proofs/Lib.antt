@@ -1,5 +1,6 @@
 pub mod AllLaws
 pub mod CopyLaws
+pub mod LaidLaws
 pub mod OutcomeLaws
 pub mod OverlayLaws
 pub mod ParityLaws

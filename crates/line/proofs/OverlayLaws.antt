@@ -5,7 +5,7 @@ use Prim.Native.Nat.{ℕ, zero, suc, _+_, _-_, _≤_, _<_}
 use native.Mathlib.Nat.{not-suc-le-zero, le-of-suc-le-suc}
 use native.Mathlib.Numerals.{add-one}
 use native.Mathlib.Omega.{arith}
-use lib.ListN.{length, getD, take, drop, set, length-append, length-drop, length-map, drop-of-length-le}
+use lib.ListN.{length, getD, take, drop, set, take-append-drop, length-append, length-drop, length-map, drop-of-length-le}
 use lib.Seq.{drop-cons, take-all, take-suc, set-at, take-at, drop-at, length-take-le, drop-drop}
 use Rattle.line.specs.Answer.{Outcome, done, refused, overlay, writtenAs, Wrote, refusalNumber}
 use Rattle.line.specs.declared.answer.Refusal.{Refusal}
@@ -31,6 +31,11 @@ overlay-start a m n e = take-at a (drop (length a) m) n e
 pub overlay-append : (a b m : List ℕ) → overlay (a ++ b) m ≡ a ++ overlay b (drop (length a) m)
 unfolding overlay
 overlay-append a b m = rw (length-append a b, append-assoc, drop-drop)
+
+-- a memory's own start laid over it changes nothing
+pub overlay-own : (n : ℕ) (m : List ℕ) → n ≤ length m → m ≡ overlay (take n m) m
+unfolding overlay
+overlay-own n m h = rw (length-take-le n m h) (sym (take-append-drop n m))
 
 -- one byte more, stored right behind
 pub overlay-snoc : (a m : List ℕ) (n v : ℕ) → length a ≡ n → n < length m → set (overlay a m) n v ≡ overlay (a ++ v ∷ []) m

@@ -1,0 +1,184 @@
+-- Laws of the segmentation used here: it is a legal one, how many blocks it has, which each of them is, and how long they are one after the other.
+use mathlib.Core.Bool.{Bool, true, false, not, _&&_, and-eq-true-iff}
+use mathlib.Core.List.{List, [], _∷_, _++_, append-assoc, append-nil}
+use mathlib.Core.Path.{_≡_, refl, sym, ap, _∙_}
+use Prim.Native.Nat.{ℕ, zero, suc, _+_, _*_, _-_, _≤_, _<_, min}
+use native.Mathlib.Nat.{not-suc-le-zero, le-of-suc-le-suc}
+use native.Mathlib.Numerals.{add-one}
+use native.Mathlib.Omega.{arith}
+use borrow.Author.Tests.{le-leb, leb-true}
+use lib.Dec.{eqb, leb, eqb·zero-suc, eqb·suc-suc}
+use lib.ListN.{length, getD, take, drop, length-append, length-take, length-drop, take-append-drop}
+use lib.Seq.{take-suc, take-all, take-take, drop-drop, length-take-le}
+use Rattle.line.specs.Answer.{Outcome, done, refused}
+use Rattle.line.specs.Character.{seven, textual}
+use Rattle.line.specs.Test.{if_then_else_, all}
+use Rattle.line.specs.Transaction.{Transaction, endsInCR, ofTransaction}
+use Rattle.line.proofs.AllLaws.{all-append}
+use Rattle.line.proofs.TransactionLaws.{transaction-legal, ends-append}
+use Rattle.block.specs.Block.{Segment, right, agrees}
+use Rattle.block.specs.Segmentation.{segment, continues, Joins, last, more, LegalSegmentation, blockCount, between, segments, segmentation, segmentAt, segmentBlock, blocksOf}
+use Rattle.block.specs.declared.frame.Ending.the-variants.{Etx}
+use Rattle.block.proofs.FrameLaws.{block-length}
+
+-- there are as many blocks as are asked for
+segments-count : (k : ℕ) (t : List ℕ) → length (segments k t) ≡ k
+unfolding segments
+segments-count zero t = refl
+segments-count (suc zero) t = refl
+segments-count (suc (suc k)) t = ap suc (segments-count (suc k) (drop 250 t))
+
+-- the number of blocks is the length divided by 250, rounded up
+pub segmentation-count : (t : List ℕ) → length (segmentation t) ≡ blockCount (length t)
+segmentation-count t = segments-count (blockCount (length t)) t
+
+-- ── Which segment is at which place ──
+
+-- the i-th piece of 250 characters
+abbrev piece : List ℕ → ℕ → List ℕ
+piece t i = take 250 (drop (250 * i) t)
+
+-- the pieces of what is left behind the first
+piece-next : (t : List ℕ) (i : ℕ) → piece t (suc i) ≡ piece (drop 250 t) i
+piece-next t i =
+    let step : 250 * suc i ≡ 250 + 250 * i = omega arith in
+    rw (step, drop-drop)
+
+-- the i-th of k + 1 blocks
+segments-at : (k i : ℕ) (t : List ℕ) → i ≤ k → length t ≤ 250 * suc k →
+    getD (segments (suc k) t) i (segment [] Etx) ≡ segment (piece t i) (if eqb i k then Etx else between (piece t i))
+unfolding segments
+segments-at zero zero t h l = rw (take-all 250 t l)
+segments-at zero (suc i) t h l = absurd (not-suc-le-zero h)
+segments-at (suc k) zero t h l = rw eqb·zero-suc
+segments-at (suc k) (suc i) t h l =
+    rw (piece-next, eqb·suc-suc) (segments-at k i (drop 250 t) (le-of-suc-le-suc h) (rw length-drop (omega arith)))
+
+-- the number of blocks of what is not empty: all but the last are full
+counted : (n i : ℕ) → i < blockCount n → (k : ℕ) × (blockCount n ≡ suc k) × (i ≤ k) × (250 * k < n) × (n ≤ 250 * suc k)
+counted n i h = (blockCount n - 1, omega arith, omega arith, omega arith, omega arith)
+
+-- the i-th block holds the i-th piece of 250, and ends in ETX where it is the last
+pub segment-at : (t : List ℕ) (i : ℕ) → i < blockCount (length t) →
+    segmentAt t i ≡ segment (take 250 (drop (250 * i) t)) (if eqb (i + 1) (blockCount (length t)) then Etx else between (take 250 (drop (250 * i) t)))
+segment-at t i h =
+    let (k, count, le, _, fits) = counted (length t) i h in
+    rw (count, add-one, eqb·suc-suc) (segments-at k i t le fits)
+
+-- the i-th block is full, or has what is left
+pub segment-length : (t : List ℕ) (i : ℕ) → i < blockCount (length t) → length (segmentAt t i .info) ≡ min 250 (length t - 250 * i)
+segment-length t i h = rw (segment-at t i h, length-take, length-drop)
+
+-- a block has at most 256 characters
+pub segment-fits : (t : List ℕ) (i : ℕ) → i < blockCount (length t) → length (segmentAt t i .info) + 6 ≤ 256
+segment-fits t i h = rw (segment-length t i h) (omega arith)
+
+-- the first n members, where n is cut to the length
+take-min : {A : Type 0} (n : ℕ) (xs : List A) → take (min n (length xs)) xs ≡ take n xs
+take-min n xs = sym (take-take (min n (length xs)) n xs (omega arith)) ∙ take-all (min n (length xs)) (take n xs) (omega (arith, length-take n xs))
+
+-- the i-th block holds what stands from its start to its end, as the writer cuts it
+pub segment-cut : (t : List ℕ) (i n : ℕ) → i < blockCount (length t) → n ≡ min 250 (length t - 250 * i) →
+    let info = take (250 * i + n - 250 * i) (drop (250 * i) t) in
+    segmentAt t i ≡ segment info (if eqb (i + 1) (blockCount (length t)) then Etx else between info)
+segment-cut t i n h e =
+    let rest = drop (250 * i) t in
+    let m : 250 * i + n - 250 * i ≡ min 250 (length rest) = rw length-drop (omega arith) in
+    rw (m, take-min 250 rest) (segment-at t i h)
+
+-- ── It is legal ──
+
+-- where two lists joined are textual, each is
+joined-text : (s t : List ℕ) → all textual (s ++ t) ≡ true → (all textual s ≡ true) × (all textual t ≡ true)
+joined-text s t h = and-eq-true-iff (all textual s) (all textual t) .0 (rw all-append at h)
+
+-- where two lists joined end in CR and the second is not empty, it ends in CR
+joined-end : (s t : List ℕ) → 1 ≤ length t → endsInCR (s ++ t) ≡ true → endsInCR t ≡ true
+joined-end s [] h e = absurd (not-suc-le-zero h)
+joined-end s (c ∷ t) h e = rw ends-append at e
+
+-- the ending between two blocks is right for what stands before it, and the transaction goes on
+between-right : (info : List ℕ) → 1 ≤ length info → all textual info ≡ true → (right info (between info) ≡ true) × (continues (between info) ≡ true)
+unfolding agrees
+between-right info some text = go (endsInCR info) refl
+  where
+    go : (b : Bool) → endsInCR info ≡ b → (right info (between info) ≡ true) × (continues (between info) ≡ true)
+    go true e = (rw (e, e, text), rw e)
+    go false e = (rw (e, e, text, le-leb 1 (length info) some), rw e)
+
+-- k + 1 blocks, of which all but the last are full, join to what they were cut from
+segments-join : (k : ℕ) (t : List ℕ) → 250 * k < length t → length t ≤ 250 * suc k → all textual t ≡ true → endsInCR t ≡ true → Joins (segments (suc k) t) t
+unfolding segments agrees
+segments-join zero t full fits text end = last {info = t} fits (rw (text, end))
+segments-join (suc k) t full fits text end =
+    let info = take 250 t in
+    let rest = drop 250 t in
+    let whole = take-append-drop 250 t in
+    let (info-text, rest-text) = joined-text info rest (rw whole text) in
+    let info-length : length info ≡ 250 = length-take-le 250 t (omega arith) in
+    let rest-length = length-drop 250 t in
+    let rest-end = joined-end info rest (omega arith) (rw whole end) in
+    let (info-right, goes-on) = between-right info (omega arith) info-text in
+    let rest-joins = segments-join k rest (omega arith) (omega arith) rest-text rest-end in
+    rw whole at (more {info = info} {e = between info} (omega arith) info-right goes-on rest-joins)
+
+-- the segmentation of a transaction is a legal one
+pub segmentation-legal : (t : List ℕ) → Transaction t → LegalSegmentation (segmentation t) t
+segmentation-legal t r =
+    let (others, end) = and-eq-true-iff _ (endsInCR t) .0 (transaction-legal r) in
+    let (sizes, text) = and-eq-true-iff _ (all textual t) .0 others in
+    let some = leb-true 1 (length t) (and-eq-true-iff (leb 1 (length t)) _ .0 sizes .0) in
+    let (k, count, _, full, fits) = counted (length t) 0 (omega arith) in
+    record { transaction = r; joins = rw count (segments-join k t full fits text end) }
+
+-- ── What is refused ──
+
+-- what is no transaction is refused by the same number, whatever is to be done with it
+pub of-refused : {A B : Type 0} (t : List ℕ) (x : A) (o : Outcome B) (n : ℕ) → refused n ≡ ofTransaction t (done x) → ofTransaction t o ≡ refused n
+unfolding ofTransaction
+of-refused t x o n h = go (leb 1 (length t) && leb (length t) 2000) (all seven t) (all textual t && endsInCR t) h
+  where
+    go : (l s e : Bool) → refused n ≡ (if not l then refused 2 else if not s then refused 3 else if not e then refused 6 else done x) →
+        (if not l then refused 2 else if not s then refused 3 else if not e then refused 6 else o) ≡ refused n
+    go true true true h = cc
+    go true true false h = cc
+    go true false e h = cc
+    go false s e h = cc
+
+-- ── The blocks one after the other ──
+
+-- the blocks of two lists of segments joined
+blocks-append : (gs hs : List Segment) → blocksOf (gs ++ hs) ≡ blocksOf gs ++ blocksOf hs
+unfolding blocksOf
+blocks-append [] hs = refl
+blocks-append (g ∷ gs) hs = rw (blocks-append gs hs, append-assoc)
+
+-- one block more
+pub blocks-snoc : (t : List ℕ) (i : ℕ) → i < blockCount (length t) →
+    blocksOf (take (i + 1) (segmentation t)) ≡ blocksOf (take i (segmentation t)) ++ segmentBlock (segmentAt t i)
+unfolding blocksOf
+blocks-snoc t i h =
+    let place : i < length (segmentation t) = rw (segmentation-count t) h in
+    rw (add-one, take-suc (segmentation t) i (segment [] Etx) place, blocks-append, append-nil)
+
+-- blocks have six characters each besides the information
+segments-length : (k : ℕ) (t : List ℕ) → length t ≤ 250 * k → length (blocksOf (segments k t)) ≡ length t + 6 * k
+unfolding segments blocksOf
+segments-length zero t fits = omega arith
+segments-length (suc zero) t fits = rw append-nil (block-length t Etx)
+segments-length (suc (suc k)) t fits =
+    let rest = segments-length (suc k) (drop 250 t) (rw length-drop (omega arith)) in
+    rw (length-append, rest, block-length, length-take, length-drop) (omega arith)
+
+-- the blocks of a transaction have six characters each besides the information
+pub blocks-length : (t : List ℕ) → length (blocksOf (segmentation t)) ≡ length t + 6 * blockCount (length t)
+blocks-length t = segments-length (blockCount (length t)) t (omega arith)
+
+-- a block fits behind those before it
+pub blocks-fit : (t : List ℕ) (i : ℕ) → i < blockCount (length t) →
+    length (blocksOf (take i (segmentation t))) + (length (segmentAt t i .info) + 6) ≤ length t + 6 * blockCount (length t)
+blocks-fit t i h =
+    let whole = blocks-append (take (i + 1) (segmentation t)) (drop (i + 1) (segmentation t)) in
+    let sizes = rw (take-append-drop, blocks-snoc t i h) at whole in
+    let lengths = simp (length-append, block-length) at (ap length sizes) in
+    rw (← blocks-length t) (omega arith)

@@ -1,0 +1,197 @@
+// What the program `blocks` prints for one line of its input.
+use crate::segmentation::block_count;
+use crate::segmentation::put_segment;
+use line::Refusal;
+use line::Written;
+use line::answer::number;
+use line::character::CR;
+use line::character::ETB;
+use line::character::ETX;
+use line::character::LF;
+use line::character::STX;
+use line::character::US;
+use line::character::is_seven_bit;
+use line::memory::copy;
+ghost use mathlib.Core.Bool.{true, not};
+ghost use mathlib.Core.List.{flatMap};
+ghost use mathlib.Core.Path.{_≡_};
+ghost use Prim.Native.Nat.{_*_, _<_, _≤_};
+ghost use lib.Dec.{eqb};
+ghost use lib.ListN.{length, getD, take};
+ghost use Rattle.line.specs.Answer.{Wrote, Laid, refusalNumber};
+ghost use Rattle.line.specs.Character.{printable};
+ghost use Rattle.line.specs.Test.{all};
+ghost use Rattle.block.specs.Listing.{fieldsOf, listed, listing, printedBlock, printedRefusal, shown, spaced};
+ghost use Rattle.block.specs.Segmentation.{blockCount, segmentAt, segmentation};
+
+// Room for what any line prints.
+pub const ROOM: usize = 10248;
+
+// The most characters of a line: a transaction's, less the CR at its end.
+const LINE: usize = 1999;
+
+// The blocks of the transaction that a line is, cut at its first space into two fields, each block
+// printed on a line of its own; or the line `refused` with the number.
+pub fn list(line: &[u8], out: &mut [u8]) -> Written
+    ensures { λ r. ⌜ Wrote (listed (now (line .entry)) (length (now (out .entry)))) r (now (out .entry)) (now (out .exit)) ⌝ }
+{
+    if out.len() < ROOM {
+        return Written::Refused(Refusal::Size);
+    }
+    Written::Count(put_listing(line, out))
+}
+
+fn put_listing(line: &[u8], out: &mut [u8]) -> usize
+    requires { ⌜ 10248 ≤ length (now out) ⌝ }
+    ensures { λ r. ⌜ Laid (listing (now (line .entry))) r (now (out .entry)) (now (out .exit)) ⌝ }
+{
+    if LINE < line.len() {
+        return put_refusal(Refusal::Length, out);
+    }
+    if !is_seven_bit(line) {
+        return put_refusal(Refusal::Parity, out);
+    }
+    if !is_printable(line) {
+        return put_refusal(Refusal::Information, out);
+    }
+    if first_space(line) == line.len() {
+        return put_refusal(Refusal::Information, out);
+    }
+    put_line(line, out)
+}
+
+// The refusal on a line of its own.
+fn put_refusal(refusal: Refusal, out: &mut [u8]) -> usize
+    requires { ⌜ 10 ≤ length (now out) ⌝ }
+    ensures { λ r. ⌜ Laid (printedRefusal (refusalNumber refusal)) r (now (out .entry)) (now (out .exit)) ⌝ }
+{
+    let at = put_text(b"refused ", out);
+    out[at] = 0x30 + number(refusal);
+    out[at + 1] = LF;
+    at + 2
+}
+
+// The blocks of the transaction that a line is.
+fn put_line(line: &[u8], out: &mut [u8]) -> usize
+    requires { ⌜ (length (now line) ≤ 1999) × (spaced (now line) ≡ true) × (10248 ≤ length (now out)) ⌝ }
+    ensures { λ r. ⌜ Laid (flatMap printedBlock (segmentation (fieldsOf (now (line .entry))))) r (now (out .entry)) (now (out .exit)) ⌝ }
+{
+    let mut info = [0; 2000];
+    let n = put_fields(line, &mut info);
+    put_blocks(&info[..n], out)
+}
+
+// The information of a line: CR in the place of its first space, and CR behind it.
+fn put_fields(line: &[u8], out: &mut [u8]) -> usize
+    requires { ⌜ (spaced (now line) ≡ true) × (length (now line) < length (now out)) ⌝ }
+    ensures { λ r. ⌜ Laid (fieldsOf (now (line .entry))) r (now (out .entry)) (now (out .exit)) ⌝ }
+{
+    let n = put_text(line, out);
+    out[first_space(line)] = CR;
+    out[n] = CR;
+    n + 1
+}
+
+// The blocks of a transaction, each on a line of its own.
+fn put_blocks(info: &[u8], out: &mut [u8]) -> usize
+    requires { ⌜ (length (now info) ≤ 2000) × (10248 ≤ length (now out)) ⌝ }
+    ensures { λ r. ⌜ Laid (flatMap printedBlock (segmentation (now (info .entry)))) r (now (out .entry)) (now (out .exit)) ⌝ }
+{
+    let count = block_count(info.len());
+    let mut index = 0;
+    let mut at = 0;
+    while index < count {
+        at += put_printed(info, index, &mut out[at..]);
+        index += 1;
+    }
+    at
+}
+
+// The block at an index, on a line of its own.
+fn put_printed(info: &[u8], index: usize, out: &mut [u8]) -> usize
+    requires { ⌜ (index < blockCount (length (now info))) × (1281 ≤ length (now out)) ⌝ }
+    ensures { λ r. ⌜ Laid (printedBlock (segmentAt (now (info .entry)) index)) r (now (out .entry)) (now (out .exit)) ⌝ }
+{
+    let mut block = [0; 256];
+    let n = put_segment(info, index, &mut block);
+    let at = put_shown(&block[..n], out);
+    out[at] = LF;
+    at + 1
+}
+
+// Each character as it is printed.
+fn put_shown(text: &[u8], out: &mut [u8]) -> usize
+    requires { ⌜ 5 * length (now text) ≤ length (now out) ⌝ }
+    ensures { λ r. ⌜ Laid (flatMap shown (now (text .entry))) r (now (out .entry)) (now (out .exit)) ⌝ }
+{
+    let mut i = 0;
+    let mut at = 0;
+    while i < text.len() {
+        at += put_character(text[i], &mut out[at..]);
+        i += 1;
+    }
+    at
+}
+
+// One character as it is printed: the control characters of a block by their names.
+fn put_character(c: u8, out: &mut [u8]) -> usize
+    requires { ⌜ 5 ≤ length (now out) ⌝ }
+    ensures { λ r. ⌜ Laid (shown c) r (now (out .entry)) (now (out .exit)) ⌝ }
+{
+    if c == STX {
+        return put_text(b"<STX>", out);
+    }
+    if c == ETX {
+        return put_text(b"<ETX>", out);
+    }
+    if c == ETB {
+        return put_text(b"<ETB>", out);
+    }
+    if c == US {
+        return put_text(b"<US>", out);
+    }
+    if c == CR {
+        return put_text(b"<CR>", out);
+    }
+    out[0] = c;
+    1
+}
+
+fn put_text(text: &[u8], out: &mut [u8]) -> usize
+    requires { ⌜ length (now text) ≤ length (now out) ⌝ }
+    ensures { λ r. ⌜ Laid (now (text .entry)) r (now (out .entry)) (now (out .exit)) ⌝ }
+{
+    copy(text, out);
+    text.len()
+}
+
+// Every byte is a character of a field: 20 to 7E.
+fn is_printable(text: &[u8]) -> bool
+    ensures { λ r. ⌜ r ≡ all printable (now (text .entry)) ⌝ }
+{
+    let mut i = 0;
+    while i < text.len() {
+        if text[i] < 0x20 {
+            return false;
+        }
+        if 0x7E < text[i] {
+            return false;
+        }
+        i += 1;
+    }
+    true
+}
+
+// Where the first space stands, or the length where there is none.
+fn first_space(line: &[u8]) -> usize
+    ensures { λ r. ⌜ (r ≤ length (now (line .entry))) × (all (λ c. not (eqb c 0x20)) (take r (now (line .entry))) ≡ true) × (r < length (now (line .entry)) → getD (now (line .entry)) r 0 ≡ 0x20) ⌝ }
+{
+    let mut i = 0;
+    while i < line.len() {
+        if line[i] == 0x20 {
+            return i;
+        }
+        i += 1;
+    }
+    i
+}

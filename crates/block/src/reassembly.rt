@@ -1,0 +1,115 @@
+// Joining the blocks of a transaction again, a block at a time, in a buffer that the caller lends.
+use crate::frame::Ending;
+use crate::frame::OVERHEAD;
+use crate::frame::Reading;
+use crate::frame::information;
+use crate::frame::read;
+use line::Refusal;
+use line::character::is_textual;
+use line::transaction::LONGEST;
+use line::transaction::ends_in_cr;
+ghost use mathlib.Core.Bool.{not};
+ghost use mathlib.Core.Path.{_≡_};
+ghost use Prim.Native.Nat.{_-_, min};
+ghost use lib.ListN.{length};
+ghost use Rattle.block.specs.Reassembly.{Joined, inRange, joinBlock};
+ghost use Rattle.block.specs.Reassembly as Joining;
+ghost use Rattle.block.specs.Segmentation.{continues};
+
+// How many characters have been joined, at the start of the buffer, and whether a block with ETX
+// was among them.
+pub struct Reassembly {
+    pub length: usize,
+    pub complete: bool,
+}
+
+pub enum Reassembled {
+    Held(Reassembly),
+    Refused(Refusal),
+}
+
+// The state before the first block.
+pub fn start() -> Reassembly
+    ensures { λ r. ⌜ r ≡ Joining.start ⌝ }
+{
+    Reassembly {
+        length: 0,
+        complete: false,
+    }
+}
+
+// One block more, with its parity taken off: its information goes behind what has been joined. The
+// buffer has 2,000 bytes or more.
+pub fn reassemble(state: Reassembly, block: &[u8], buffer: &mut [u8]) -> Reassembled
+    ensures { λ r. ⌜ Joined (joinBlock state (now (buffer .entry)) (now (block .entry))) r (now (buffer .entry)) (now (buffer .exit)) ⌝ }
+{
+    if !in_range(state, buffer) {
+        return Reassembled::Refused(Refusal::Range);
+    }
+    if buffer.len() < LONGEST {
+        return Reassembled::Refused(Refusal::Size);
+    }
+    let length = state.length;
+    if LONGEST < length + information_length(block) {
+        return Reassembled::Refused(Refusal::Length);
+    }
+    match read(block) {
+        Reading::Refused(refusal) => Reassembled::Refused(refusal),
+        Reading::Block(ending) => {
+            if state.complete {
+                return Reassembled::Refused(Refusal::Information);
+            }
+            let info = information(block);
+            line::memory::copy(info, &mut buffer[length..]);
+            Reassembled::Held(Reassembly {
+                length: length + info.len(),
+                complete: is_last(ending),
+            })
+        }
+    }
+}
+
+fn in_range(state: Reassembly, buffer: &[u8]) -> bool
+    ensures { λ r. ⌜ r ≡ inRange state (now (buffer .entry)) ⌝ }
+{
+    let length = state.length;
+    if LONGEST < length {
+        return false;
+    }
+    let end = least(length, buffer.len());
+    let held = &buffer[..end];
+    if !is_textual(held) {
+        return false;
+    }
+    if state.complete {
+        return ends_in_cr(held);
+    }
+    true
+}
+
+// The length of a block's information, by the length of the block.
+fn information_length(block: &[u8]) -> usize
+    ensures { λ r. ⌜ r ≡ length (now (block .entry)) - 6 ⌝ }
+{
+    let n = block.len();
+    if n < OVERHEAD {
+        return 0;
+    }
+    n - OVERHEAD
+}
+
+fn is_last(ending: Ending) -> bool
+    ensures { λ r. ⌜ r ≡ not (continues ending) ⌝ }
+{
+    match ending {
+        Ending::Etx => true,
+        Ending::Etb => false,
+        Ending::Us => false,
+    }
+}
+
+fn least(a: usize, b: usize) -> usize
+    ensures { λ r. ⌜ r ≡ min a b ⌝ }
+{
+    if a < b { a } else { b }
+}
