@@ -1,4 +1,5 @@
 pub mod FrameLaws
 pub mod ListingLaws
 pub mod ReassemblyLaws
+pub mod SegmentLaws
 pub mod SegmentationLaws

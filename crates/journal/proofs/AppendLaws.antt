@@ -54,6 +54,17 @@ pub record AppendKept (buffer : List ℕ) (n : ℕ) (t : List ℕ) (ts : List (L
       take (n - 4) buffer ++ overlay (recordOf t ++ twoBytes (length ts + 1) ++ twoBytes (length (recordsOf ts) + (length t + 2))) (drop (n - 4) buffer)
   pub within : length (encode (ts ++ t ∷ [])) ≤ 32004
 
+-- the bytes of a journal laid over the start of a buffer are read as the journal
+pub journal-decodes : (buffer : List ℕ) (ts : List (List ℕ)) → length buffer ≡ 32004 → Journal ts → decodeIn (overlay (encode ts) buffer) (length (encode ts)) ≡ done ts
+unfolding decodeIn
+journal-decodes buffer ts size j =
+    let e : List ℕ = encode ts in
+    let over : List ℕ = overlay e buffer in
+    let fits : length e ≤ 32004 = omega (arith, encode-length ts, j .small) in
+    let same : length over ≡ length buffer = overlay-length e buffer (omega arith) in
+    let front : take (length e) over ≡ e = overlay-start e buffer (length e) refl in
+    rw (eq-eqb (length over) 32004 (omega arith), le-ltb (length over) (length e) (omega arith), front, decode-encode ts j)
+
 -- a journal that is read at the start of a buffer of bytes, and a transaction for which it has room
 module _ (buffer : List ℕ) (n : ℕ) (t : List ℕ) (ts : List (List ℕ)) (bytes : all byte buffer ≡ true) (read : decodeIn buffer n ≡ done ts)
     (good : legal t ≡ true) (room : hasRoom ts (length t) ≡ true) where
@@ -82,11 +93,4 @@ module _ (buffer : List ℕ) (n : ℕ) (t : List ℕ) (ts : List (List ℕ)) (by
 
   -- after an append the longer list is read
   pub append-decodes : decodeIn (overlay (encode (ts ++ t ∷ [])) buffer) (length (encode (ts ++ t ∷ []))) ≡ done (ts ++ t ∷ [])
-  unfolding decodeIn
-  append-decodes =
-      let (size, _, _, _) = decode-in-parts buffer n ts bytes read in
-      let e : List ℕ = encode (ts ++ t ∷ []) in
-      let over : List ℕ = overlay e buffer in
-      let same : length over ≡ length buffer = overlay-length e buffer (omega (arith, fits)) in
-      let front : take (length e) over ≡ e = overlay-start e buffer (length e) refl in
-      rw (eq-eqb (length over) 32004 (omega arith), le-ltb (length over) (length e) (omega (arith, fits)), front, decode-encode (ts ++ t ∷ []) longer)
+  append-decodes = journal-decodes buffer (ts ++ t ∷ []) (decode-in-parts buffer n ts bytes read .0) longer

@@ -13,13 +13,13 @@ use Rattle.line.specs.Answer.{done}
 use Rattle.line.specs.Character.{byte}
 use Rattle.line.specs.Test.{all}
 use Rattle.journal.specs.declared.cursor.Position.{Position}
-use Rattle.journal.specs.Encoding.{twoBytes, recordsOf, encode, Journal, WellFormed}
+use Rattle.journal.specs.Encoding.{twoBytes, recordsOf, encode, Journal, WellFormed, allLegal}
 use Rattle.journal.specs.Walk.{butLast, lastNumber, walkBack, trailer, newestFirst, decode}
 use Rattle.line.proofs.AllLaws.{all-take}
 use Rattle.journal.proofs.NumberLaws.{last-number, number-split}
 use Rattle.line.proofs.OutcomeLaws.{then-done, map-done, passed}
 use Rattle.journal.proofs.RecordLaws.{encode-length}
-use Rattle.journal.proofs.WalkLaws.{legal-reverse, walk-records, walk-length, walk-bytes}
+use Rattle.journal.proofs.WalkLaws.{legal-reverse, walk-records, walk-length, walk-bytes, walk-legal}
 
 -- a journal's trailer is read as it was written
 pub trailer-encode : (ts : List (List ℕ)) → Journal ts → trailer (encode ts) ≡ done (record { end = length (recordsOf ts); left = length ts })
@@ -104,3 +104,10 @@ well-formed-decodes w = rw (w .encoded) (decode-encode (w .transactions) (w .jou
 -- bytes are well formed for one list of transactions only
 pub only-one : {b : List ℕ} (v w : WellFormed b) → v .transactions ≡ w .transactions
 only-one v w = cc (well-formed-decodes v, well-formed-decodes w)
+
+-- the transactions of bytes that are decoded are legal
+pub decode-legal : (b : List ℕ) (ts : List (List ℕ)) → decode b ≡ done ts → allLegal ts ≡ true
+decode-legal b ts h =
+    let (rs, newest, e) = map-done reverse (newestFirst b) ts h in
+    let (p, _, walk) = then-done (trailer b) _ rs newest in
+    rw (← e) (legal-reverse rs (walk-legal (p .left) (take (p .end) b) rs walk))

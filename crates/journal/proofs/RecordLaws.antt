@@ -2,11 +2,11 @@
 use mathlib.Core.Bool.{true, not, and-eq-true-iff}
 use mathlib.Core.List.{List, [], _∷_, _++_, append-assoc, append-nil}
 use mathlib.Core.Path.{_≡_, sym, ap, _∙_}
-use Prim.Native.Nat.{ℕ, _+_, _-_, _≤_}
+use Prim.Native.Nat.{ℕ, _+_, _-_, _≤_, zero, suc, _<_}
 use native.Mathlib.Omega.{arith}
 use borrow.Author.Tests.{ltb-false, le-ltb, not-false}
 use lib.Dec.{ltb}
-use lib.ListN.{length, take, drop, length-append, length-take, length-drop, take-append-drop}
+use lib.ListN.{length, take, drop, length-append, length-take, length-drop, take-append-drop, getD}
 use lib.Seq.{take-at, drop-at, take-take}
 use Rattle.line.specs.Answer.{done}
 use Rattle.line.specs.Character.{byte}
@@ -16,6 +16,7 @@ use Rattle.journal.specs.Encoding.{twoBytes, recordOf, recordsOf, encode
 use Rattle.journal.specs.Walk.{butLast, lastNumber, Met, lastInformation, stepBack}
 use Rattle.line.proofs.OutcomeLaws.{passed}
 use Rattle.journal.proofs.NumberLaws.{last-number, number-bytes}
+use native.Mathlib.Nat.{not-suc-le-zero, le-of-suc-le-suc}
 
 -- a record is two bytes longer than its transaction
 pub record-length : (t : List ℕ) → length (recordOf t) ≡ length t + 2
@@ -90,3 +91,10 @@ step-record b m a h =
     let (whole, size, good) = step-split b m h in
     let number : drop (length b - 2) b ≡ twoBytes (length (m .transaction)) = number-bytes b a (omega arith) ∙ ap twoBytes (sym size) in
     (whole ∙ ap (λ d. m .before ++ (m .transaction ++ d)) number, good)
+
+-- where all are legal, each is
+pub legal-at : (ts : List (List ℕ)) (i : ℕ) → allLegal ts ≡ true → i < length ts → legal (getD ts i []) ≡ true
+unfolding allLegal
+legal-at [] i e h = absurd (not-suc-le-zero h)
+legal-at (t ∷ ts) zero e h = and-eq-true-iff (legal t) (allLegal ts) .0 e .0
+legal-at (t ∷ ts) (suc i) e h = legal-at ts i (and-eq-true-iff (legal t) (allLegal ts) .0 e .1) (le-of-suc-le-suc h)

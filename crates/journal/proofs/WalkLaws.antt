@@ -15,7 +15,7 @@ use Rattle.journal.specs.Walk.{Met, stepBack, walkBack}
 use Rattle.journal.proofs.ListLaws.{length-none}
 use Rattle.line.proofs.AllLaws.{all-front}
 use Rattle.line.proofs.OutcomeLaws.{then-done, map-done, held}
-use Rattle.journal.proofs.RecordLaws.{records-snoc, legal-append, step-back, step-record}
+use Rattle.journal.proofs.RecordLaws.{records-snoc, legal-append, step-back, step-record, step-split}
 
 -- transactions are legal the other way round too
 pub legal-reverse : (ts : List (List ℕ)) → allLegal ts ≡ true → allLegal (reverse ts) ≡ true
@@ -73,3 +73,16 @@ walk-bytes (suc k) b rs a h =
     let (front, legals) = walk-bytes k (m .before) us (all-front byte (m .before) (recordOf t) (rw whole at a)) rest in
     let bytes : b ≡ recordsOf (reverse (t ∷ us)) = rw (reverse-cons t us, records-snoc (reverse us) t, ← front) whole in
     rw (← e) (bytes, rw (good, legals))
+
+-- what a walk back gives is legal, whatever the bytes are
+pub walk-legal : (k : ℕ) (b : List ℕ) (rs : List (List ℕ)) → walkBack k b ≡ done rs → allLegal rs ≡ true
+unfolding walkBack allLegal
+walk-legal zero b rs h =
+    let (_, e) = held (eqb (length b) 0) _ _ _ h in
+    let none : rs ≡ [] = cc in
+    rw none
+walk-legal (suc k) b rs h =
+    let (m, step, r) = then-done (stepBack b) _ rs h in
+    let (us, rest, e) = map-done _ (walkBack k (m .before)) rs r in
+    let (_, _, good) = step-split b m step in
+    rw (← e, good, walk-legal k (m .before) us rest)

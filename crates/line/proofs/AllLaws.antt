@@ -1,6 +1,6 @@
 -- Laws of `all`, the test of every member of a list: as a loop makes it, over an append, at a member, from one test to a weaker one, and over a map.
 -- And of `same`, which decides that two lists are equal, and `before`, the place of a member.
-use mathlib.Core.Bool.{Bool, true, false, _&&_, false≢true, and-assoc, and-eq-true-iff}
+use mathlib.Core.Bool.{Bool, true, false, _&&_, false≢true, and-assoc, and-eq-true-iff, and-false}
 use mathlib.Core.List.{List, [], _∷_, _++_, map}
 use mathlib.Core.Path.{_≡_, refl, sym, _∙_}
 use Prim.Native.Nat.{ℕ, zero, suc, _+_, _≤_, _<_}
@@ -9,9 +9,10 @@ use native.Mathlib.Numerals.{add-one}
 use native.Mathlib.Omega.{arith}
 use lib.ListN.{length, getD, take, drop, drop-of-length-le, take-append-drop}
 use lib.Seq.{drop-cons}
-use borrow.Author.Tests.{eqb-true, eq-eqb, ne-eqb, leb-true, leb-false}
+use borrow.Author.Tests.{eqb-true, eq-eqb, ne-eqb, leb-true, leb-false, ltb-false, lt-leb}
 use lib.Dec.{eqb, leb}
-use Rattle.line.specs.Test.{all, same, before}
+use Rattle.line.specs.Test.{all, same, before, if_then_else_}
+use Rattle.line.specs.Character.{seven, alphanumeric}
 
 -- a loop that has passed the members below i: the rest decides
 module _ (p : ℕ → Bool) (xs : List ℕ) (i : ℕ) (rest : all p xs ≡ all p (drop i xs)) where
@@ -145,3 +146,23 @@ module _ (y : ℕ) (xs : List ℕ) (i : ℕ) where
   pub before-none : length xs ≤ i → before y (drop i xs) ≡ 0
   unfolding before
   before-none h = rw (drop-of-length-le xs h)
+
+-- a letter or digit is a 7-bit value
+pub alphanumeric-seven : (c : ℕ) → alphanumeric c ≡ true → seven c ≡ true
+alphanumeric-seven c h = go (seven c) refl
+  where
+    go : (b : Bool) → seven c ≡ b → b ≡ true
+    go true e = refl
+    go false e =
+        let far = ltb-false c 0x80 e in
+        absurd (false≢true (simp (lt-leb c 0x39 (omega arith), lt-leb c 0x5A (omega arith), lt-leb c 0x7A (omega arith), and-false) at h))
+
+-- a place is within the list
+pub before-within : (y : ℕ) (xs : List ℕ) → before y xs ≤ length xs
+unfolding before
+before-within y [] = omega arith
+before-within y (x ∷ xs) = go (eqb x y) (before-within y xs)
+  where
+    go : (b : Bool) → before y xs ≤ length xs → (if b then 0 else suc (before y xs)) ≤ length (x ∷ xs)
+    go true h = omega arith
+    go false h = omega arith

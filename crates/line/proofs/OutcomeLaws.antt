@@ -1,4 +1,4 @@
--- Outcomes that are done: what was done before them.
+-- Outcomes that are done: what was done before them. And what holds of a choice.
 use mathlib.Core.Bool.{Bool, true, false}
 use mathlib.Core.Path.{_≡_, refl}
 use Prim.Native.Nat.{ℕ}
@@ -25,3 +25,8 @@ passed false n o x e = (refl, e)
 pub held : {A : Type 0} (s : Bool) (n : ℕ) (o : Outcome A) (x : A) → (if s then o else refused n) ≡ done x → (s ≡ true) × (o ≡ done x)
 held true n o x e = (refl, e)
 held false n o x e = let z : _≡_ {A = ℕ} 0 1 = cc in absurd (omega arith)
+
+-- what holds of either branch of a choice, where its test is so, holds of the choice
+pub choice : {A : Type 0} (P : A → Type 0) (b : Bool) {x y : A} → (b ≡ true → P x) → (b ≡ false → P y) → P (if b then x else y)
+choice P true p q = p refl
+choice P false p q = q refl

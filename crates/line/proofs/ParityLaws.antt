@@ -106,3 +106,8 @@ pub flip-refused : (line : List ℕ) (i room : ℕ) → all even line ≡ true �
     parityOff (set line i (flipTop (getD line i 0))) room ≡ refused 3
 unfolding parityOff
 flip-refused line i room e h b r = rw (length-set, le-ltb room (length line) r, all-flip-odd line i e h b)
+
+-- the line of a text gives the text back
+pub with-off : (text : List ℕ) (room : ℕ) → all seven text ≡ true → length text ≤ room → parityOff (map withParity text) room ≡ done text
+unfolding parityOff
+with-off text room h l = rw (length-map, le-ltb room (length text) l, all-with-even text h, all-without-with text h)

@@ -181,3 +181,9 @@ refused-illegal t x k e = go (legal t) refl
     go : (l : Bool) → legal t ≡ l → l ≡ false
     go false q = refl
     go true q = let d = of-legal t (done x) q in cc
+
+-- what is joined ends in CR where the second part does
+pub ends-joined : (s t : List ℕ) → endsInCR t ≡ true → endsInCR (s ++ t) ≡ true
+unfolding endsInCR
+ends-joined s [] h = cc
+ends-joined s (c ∷ t) h = ends-append s c t ∙ h
