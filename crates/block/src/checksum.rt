@@ -17,8 +17,11 @@ pub fn checksum(text: &[u8]) -> u16
     sum
 }
 
-// The three characters that carry the checksum of the text, highest four bits first.
-pub fn check_characters(text: &[u8]) -> [u8; 3]
+// The three characters that carry a checksum.
+pub type Check = [u8; 3];
+
+// The characters that carry the checksum of the text, highest four bits first.
+pub fn check_characters(text: &[u8]) -> Check
     ensures { λ r. ⌜ r ≡ Checksum.checkCharacters (Checksum.checksum (now (text .entry))) ⌝ }
 {
     let sum = checksum(text);

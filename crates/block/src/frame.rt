@@ -3,12 +3,12 @@ use crate::checksum::check_characters;
 use line::Refusal;
 use line::Written;
 use line::character::CR;
+use line::character::Class;
 use line::character::ETB;
 use line::character::ETX;
 use line::character::STX;
 use line::character::US;
-use line::character::is_seven_bit;
-use line::character::is_textual;
+use line::character::are;
 use line::transaction::ends_in_cr;
 ghost use mathlib.Core.Path.{_≡_};
 ghost use Prim.Native.Nat.{_+_, _≤_};
@@ -50,7 +50,7 @@ pub fn write(info: &[u8], ending: Ending, out: &mut [u8]) -> Written
     if INFORMATION < n {
         return Written::Refused(Refusal::Length);
     }
-    if !is_seven_bit(info) {
+    if !are(info, Class::SevenBit) {
         return Written::Refused(Refusal::Parity);
     }
     if !is_right(info, ending) {
@@ -72,7 +72,7 @@ pub fn read(s: &[u8]) -> Reading
     if INFORMATION + OVERHEAD < n {
         return Reading::Refused(Refusal::Length);
     }
-    if !is_seven_bit(s) {
+    if !are(s, Class::SevenBit) {
         return Reading::Refused(Refusal::Parity);
     }
     if !is_framed(s) {
@@ -126,7 +126,7 @@ fn put_summed(info: &[u8], ending: Ending, out: &mut [u8])
 pub(crate) fn is_right(info: &[u8], ending: Ending) -> bool
     ensures { λ r. ⌜ r ≡ right (now (info .entry)) ending ⌝ }
 {
-    if !is_textual(info) {
+    if !are(info, Class::Textual) {
         return false;
     }
     match ending {

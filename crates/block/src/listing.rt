@@ -5,12 +5,13 @@ use line::Refusal;
 use line::Written;
 use line::answer::number;
 use line::character::CR;
+use line::character::Class;
 use line::character::ETB;
 use line::character::ETX;
 use line::character::LF;
 use line::character::STX;
 use line::character::US;
-use line::character::is_seven_bit;
+use line::character::are;
 use line::memory::copy;
 ghost use mathlib.Core.Bool.{true, not};
 ghost use mathlib.Core.List.{flatMap};
@@ -48,10 +49,10 @@ fn put_listing(line: &[u8], out: &mut [u8]) -> usize
     if LINE < line.len() {
         return put_refusal(Refusal::Length, out);
     }
-    if !is_seven_bit(line) {
+    if !are(line, Class::SevenBit) {
         return put_refusal(Refusal::Parity, out);
     }
-    if !is_printable(line) {
+    if !are(line, Class::Printable) {
         return put_refusal(Refusal::Information, out);
     }
     if first_space(line) == line.len() {
@@ -163,23 +164,6 @@ fn put_text(text: &[u8], out: &mut [u8]) -> usize
 {
     copy(text, out);
     text.len()
-}
-
-// Every byte is a character of a field: 20 to 7E.
-fn is_printable(text: &[u8]) -> bool
-    ensures { λ r. ⌜ r ≡ all printable (now (text .entry)) ⌝ }
-{
-    let mut i = 0;
-    while i < text.len() {
-        if text[i] < 0x20 {
-            return false;
-        }
-        if 0x7E < text[i] {
-            return false;
-        }
-        i += 1;
-    }
-    true
 }
 
 // Where the first space stands, or the length where there is none.

@@ -5,7 +5,8 @@ use crate::frame::Reading;
 use crate::frame::information;
 use crate::frame::read;
 use line::Refusal;
-use line::character::is_textual;
+use line::character::Class;
+use line::character::are;
 use line::transaction::LONGEST;
 use line::transaction::ends_in_cr;
 ghost use mathlib.Core.Bool.{not};
@@ -78,7 +79,7 @@ fn in_range(state: Reassembly, buffer: &[u8]) -> bool
     }
     let end = least(length, buffer.len());
     let held = &buffer[..end];
-    if !is_textual(held) {
+    if !are(held, Class::Textual) {
         return false;
     }
     if state.complete {

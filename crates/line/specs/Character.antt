@@ -3,36 +3,47 @@ use mathlib.Core.Bool.{Bool, _&&_, _||_}
 use Prim.Native.Nat.{ℕ}
 use lib.Dec.{leb, ltb, eqb}
 
+-- start of text
 abbrev pub STX : ℕ
 STX = 0x02
 
+-- end of text
 abbrev pub ETX : ℕ
 ETX = 0x03
 
+-- end of transmission
 abbrev pub EOT : ℕ
 EOT = 0x04
 
+-- acknowledge
 abbrev pub ACK : ℕ
 ACK = 0x06
 
+-- line feed
 abbrev pub LF : ℕ
 LF = 0x0A
 
+-- carriage return
 abbrev pub CR : ℕ
 CR = 0x0D
 
+-- negative acknowledge
 abbrev pub NAK : ℕ
 NAK = 0x15
 
+-- end of transmission block
 abbrev pub ETB : ℕ
 ETB = 0x17
 
+-- escape
 abbrev pub ESC : ℕ
 ESC = 0x1B
 
+-- record separator
 abbrev pub RS : ℕ
 RS = 0x1E
 
+-- unit separator
 abbrev pub US : ℕ
 US = 0x1F
 
@@ -52,6 +63,10 @@ printable c = leb 0x20 c && leb c 0x7E
 abbrev pub textual : ℕ → Bool
 textual c = printable c || eqb c CR
 
+-- a digit, 0 to 9
+abbrev pub digit : ℕ → Bool
+digit c = leb 0x30 c && leb c 0x39
+
 -- a letter or digit
 abbrev pub alphanumeric : ℕ → Bool
-alphanumeric c = leb 0x30 c && leb c 0x39 || leb 0x41 c && leb c 0x5A || leb 0x61 c && leb c 0x7A
+alphanumeric c = digit c || leb 0x41 c && leb c 0x5A || leb 0x61 c && leb c 0x7A

@@ -1,5 +1,6 @@
 pub mod Answer
 pub mod Character
+pub mod Class
 pub mod Parity
 pub mod Password
 pub mod Test

@@ -1,6 +1,8 @@
 // The control characters of the protocol, as 7-bit values, and tests of characters.
+ghost use mathlib.Core.Bool.{_&&_};
 ghost use mathlib.Core.Path.{_≡_};
-ghost use Rattle.line.specs.Character.{alphanumeric, seven, textual};
+ghost use lib.Dec.{leb};
+ghost use Rattle.line.specs.Class.{member};
 ghost use Rattle.line.specs.Test.{all};
 
 pub const STX: u8 = 0x02;
@@ -25,13 +27,26 @@ pub const RS: u8 = 0x1E;
 
 pub const US: u8 = 0x1F;
 
-// Every byte is a 7-bit value.
-pub fn is_seven_bit(text: &[u8]) -> bool
-    ensures { λ r. ⌜ r ≡ all seven (now (text .entry)) ⌝ }
+// A class of characters.
+pub enum Class {
+    // Below 80 hex.
+    SevenBit,
+    // 20 to 7E: a character of a field.
+    Printable,
+    // 20 to 7E, or CR: a character of a transaction's information.
+    Textual,
+    Digit,
+    // A letter or digit.
+    Alphanumeric,
+}
+
+// Every byte is of the class.
+pub fn are(text: &[u8], class: Class) -> bool
+    ensures { λ r. ⌜ r ≡ all (member class) (now (text .entry)) ⌝ }
 {
     let mut i = 0;
     while i < text.len() {
-        if text[i] >= 0x80 {
+        if !is(text[i], class) {
             return false;
         }
         i += 1;
@@ -39,60 +54,23 @@ pub fn is_seven_bit(text: &[u8]) -> bool
     true
 }
 
-// Every byte is a letter or digit.
-pub fn is_alphanumeric(text: &[u8]) -> bool
-    ensures { λ r. ⌜ r ≡ all alphanumeric (now (text .entry)) ⌝ }
+// The byte is of the class.
+pub fn is(c: u8, class: Class) -> bool
+    ensures { λ r. ⌜ r ≡ member class c ⌝ }
 {
-    let mut i = 0;
-    while i < text.len() {
-        if !is_letter_or_digit(text[i]) {
-            return false;
-        }
-        i += 1;
+    match class {
+        Class::SevenBit => c < 0x80,
+        Class::Printable => between(0x20, c, 0x7E),
+        Class::Textual => between(0x20, c, 0x7E) | (c == CR),
+        Class::Digit => between(0x30, c, 0x39),
+        Class::Alphanumeric => between(0x30, c, 0x39)
+            | between(0x41, c, 0x5A)
+            | between(0x61, c, 0x7A),
     }
-    true
 }
 
-// Every byte is a character of a transaction's information: 20 to 7E, or CR.
-pub fn is_textual(text: &[u8]) -> bool
-    ensures { λ r. ⌜ r ≡ all textual (now (text .entry)) ⌝ }
+fn between(low: u8, c: u8, high: u8) -> bool
+    ensures { λ r. ⌜ r ≡ (leb low c && leb c high) ⌝ }
 {
-    let mut i = 0;
-    while i < text.len() {
-        if !is_information(text[i]) {
-            return false;
-        }
-        i += 1;
-    }
-    true
-}
-
-fn is_letter_or_digit(c: u8) -> bool
-    ensures { λ r. ⌜ r ≡ alphanumeric c ⌝ }
-{
-    if c < 0x30 {
-        return false;
-    }
-    if c <= 0x39 {
-        return true;
-    }
-    if c < 0x41 {
-        return false;
-    }
-    if c <= 0x5A {
-        return true;
-    }
-    if c < 0x61 {
-        return false;
-    }
-    c <= 0x7A
-}
-
-fn is_information(c: u8) -> bool
-    ensures { λ r. ⌜ r ≡ textual c ⌝ }
-{
-    if c < 0x20 {
-        return c == CR;
-    }
-    c <= 0x7E
+    (low <= c) & (c <= high)
 }

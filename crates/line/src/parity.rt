@@ -1,7 +1,8 @@
 // Even parity on the line: bit 7 of each byte makes its number of ones even.
 use crate::answer::Refusal;
 use crate::answer::Written;
-use crate::character::is_seven_bit;
+use crate::character::Class;
+use crate::character::are;
 ghost use mathlib.Core.Bool.{true};
 ghost use mathlib.Core.List.{map};
 ghost use mathlib.Core.Path.{_≡_};
@@ -19,7 +20,7 @@ pub fn set_parity(text: &[u8], out: &mut [u8]) -> Written
     if out.len() < text.len() {
         return Written::Refused(Refusal::Size);
     }
-    if !is_seven_bit(text) {
+    if !are(text, Class::SevenBit) {
         return Written::Refused(Refusal::Parity);
     }
     put_parity(text, out);

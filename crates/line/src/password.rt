@@ -1,5 +1,6 @@
 // The password of a logon: 0 to 6 letters and digits.
-use crate::character::is_alphanumeric;
+use crate::character::Class;
+use crate::character::are;
 ghost use mathlib.Core.Path.{_≡_};
 ghost use Rattle.line.specs.Password.{passwordInRange};
 
@@ -17,5 +18,5 @@ pub fn is_password(password: Password) -> bool
     if 6 < length {
         return false;
     }
-    is_alphanumeric(&characters[..length])
+    are(&characters[..length], Class::Alphanumeric)
 }

@@ -2,8 +2,8 @@
 use crate::answer::Refusal;
 use crate::answer::Written;
 use crate::character::CR;
-use crate::character::is_seven_bit;
-use crate::character::is_textual;
+use crate::character::Class;
+use crate::character::are;
 ghost use mathlib.Core.Path.{_≡_};
 ghost use lib.ListN.{length};
 ghost use Rattle.line.specs.Answer.{writtenAs, done};
@@ -23,10 +23,10 @@ pub fn check_transaction(info: &[u8]) -> Written
     if LONGEST < n {
         return Written::Refused(Refusal::Length);
     }
-    if !is_seven_bit(info) {
+    if !are(info, Class::SevenBit) {
         return Written::Refused(Refusal::Parity);
     }
-    if !is_textual(info) {
+    if !are(info, Class::Textual) {
         return Written::Refused(Refusal::Information);
     }
     if !ends_in_cr(info) {

@@ -3,11 +3,13 @@
 use line::Written;
 use line::character::ACK;
 use line::character::CR;
+use line::character::Class;
 use line::character::EOT;
 use line::character::ESC;
 use line::character::LF;
 use line::character::NAK;
 use line::character::RS;
+use line::character::is;
 use line::parity::clear_parity;
 ghost use mathlib.Core.Bool.{_&&_, _||_};
 ghost use mathlib.Core.Path.{_≡_};
@@ -123,7 +125,7 @@ fn lines_end(text: &[u8], from: usize) -> usize
     let mut i = from;
     while i < text.len() {
         let c = text[i];
-        if !is_printable(c) {
+        if !is(c, Class::Printable) {
             if !ends_line(c, ended) {
                 return rest;
             }
@@ -146,16 +148,6 @@ fn ends_line(c: u8, ended: bool) -> bool
         return false;
     }
     c == LF
-}
-
-// A character of a line: 20 to 7E.
-fn is_printable(c: u8) -> bool
-    ensures { λ r. ⌜ r ≡ printable c ⌝ }
-{
-    if c < 0x20 {
-        return false;
-    }
-    c <= 0x7E
 }
 
 // The code follows, then CR or CR LF, and nothing more.

@@ -22,8 +22,8 @@ loop-holds c = (search needs, search needs, refl)
 shared-slice-read-c : tie.Need-shared-slice-read-c Inv-loop μ-loop
 shared-slice-read-c c = search needs
 
-is-printable-requires : tie.Need-is-printable-requires Inv-loop μ-loop
-is-printable-requires c κs = search needs
+is-requires : tie.Need-is-requires Inv-loop μ-loop
+is-requires c κs = search needs
 
 ends-line-requires : tie.Need-ends-line-requires Inv-loop μ-loop
 ends-line-requires c κs = search needs
@@ -33,7 +33,7 @@ returns c =
     let d = c .before .before .before in
     let l = d .before .before .before .loop in
     let a = d .before .before .before .before .before .args in
-    let control = sym (d .is-printable .ensures) ∙ not-true _ (c .before .before .if1 .taken) in
+    let control = sym (d .is .ensures) ∙ not-true _ (c .before .before .if1 .taken) in
     let other = sym (c .before .ends-line .ensures) ∙ not-true _ (c .if2 .taken) in
     (search needs, lines-over (afterLines (drop (a .from) (a .text .now))) (a .text .now) (l .rest) (l .i) (l .ended) (l .inv .2) (search needs) control other)
 
@@ -55,11 +55,11 @@ loop-again c =
     let here : l .i < length (a .text .now) = search needs in
     ⊎-elim
     (λ w.
-    let control = sym (d .is-printable .ensures) ∙ not-true _ (w .0 .taken) in
+    let control = sym (d .is .ensures) ∙ not-true _ (w .0 .taken) in
     let end = sym (w .1 .ensures) ∙ not-false _ (w .2 .left) in
     (search needs, search needs, rw (w .3) (line-ends whole (a .text .now) (l .rest) (l .i) (l .ended) (l .inv .2) here control end)))
     (λ w.
-    let character = sym (d .is-printable .ensures) ∙ not-false _ (w .0 .left) in
+    let character = sym (d .is .ensures) ∙ not-false _ (w .0 .left) in
     (search needs, search needs, rw (w .1) (line-goes-on whole (a .text .now) (l .rest) (l .i) (l .ended) (l .inv .2) here character)))
     (c .if1 .came)
 
@@ -77,7 +77,7 @@ lines-end-spec =
     μ-loop
     loop-holds
     shared-slice-read-c
-    is-printable-requires
+    is-requires
     ends-line-requires
     returns
     add-rest

@@ -8,12 +8,12 @@ use borrow.Author.Needs.{needs}
 use Rattle.block.proofs.frame.is_right.Statement.{statement}
 use Rattle.block.proofs.frame.is_right.Tie as tie
 
-is-textual-requires : tie.Need-is-textual-requires
-is-textual-requires c κs = search needs
+are-requires : tie.Need-are-requires
+are-requires c κs = search needs
 
 returns : tie.Need-returns
 unfolding agrees
-returns c = rw (sym (c .before .is-textual .ensures) ∙ not-true _ (c .if1 .taken))
+returns c = rw (sym (c .before .are .ensures) ∙ not-true _ (c .if1 .taken))
 
 enum-told : tie.Need-enum-told
 enum-told c = search needs
@@ -34,7 +34,7 @@ returns-2 : tie.Need-returns-2
 unfolding agrees
 returns-2 c =
     let d = c .before .before .before in
-    let text = sym (d .before .is-textual .ensures) ∙ not-false _ (d .if1 .left) in
+    let text = sym (d .before .are .ensures) ∙ not-false _ (d .if1 .left) in
     let a = d .before .before .before .args in
     rw (text, c .before .enum-told3 .given .1, lt-leb 1 (length (a .info .now)) (omega arith))
 
@@ -45,21 +45,21 @@ returns-3 : tie.Need-returns-3
 unfolding agrees
 returns-3 c =
     let d = c .before .before .before in
-    let text = sym (d .before .is-textual .ensures) ∙ not-false _ (d .if1 .left) in
+    let text = sym (d .before .are .ensures) ∙ not-false _ (d .if1 .left) in
     rw (text, c .before .enum-told .given .1) (c .ends-in-cr .ensures)
 
 returns-4 : tie.Need-returns-4
 unfolding agrees
 returns-4 c =
     let d = c .before .before .before in
-    let text = sym (d .before .is-textual .ensures) ∙ not-false _ (d .if1 .left) in
+    let text = sym (d .before .are .ensures) ∙ not-false _ (d .if1 .left) in
     rw (text, c .before .enum-told2 .given .1) (c .ends-in-cr2 .ensures)
 
 returns-5 : tie.Need-returns-5
 unfolding agrees
 returns-5 c =
     let d = c .before .before .before .before in
-    let text = sym (d .before .is-textual .ensures) ∙ not-false _ (d .if1 .left) in
+    let text = sym (d .before .are .ensures) ∙ not-false _ (d .if1 .left) in
     let a = d .before .before .before .args in
     rw (text, c .before .before .enum-told3 .given .1, le-leb 1 (length (a .info .now)) (omega arith), c .ends-in-cr3 .ensures)
 
@@ -67,7 +67,7 @@ pub is-right-spec : {M : Type 1} → statement M
 is-right-spec =
     tie.close
     (tie.spec
-    is-textual-requires
+    are-requires
     returns
     enum-told
     ends-in-cr-requires

@@ -18,7 +18,7 @@ within c = rw (le-leb 6 _ (c .before .if1 .left), le-leb _ 256 (c .if2 .left))
 
 -- every byte is a 7-bit value
 narrow : (c : tie.Else3) → all seven (c .before .before .before .before .before .args .s .now) ≡ true
-narrow c = sym (c .before .is-seven-bit .ensures) ∙ not-false _ (c .if3 .left)
+narrow c = sym (c .before .are .ensures) ∙ not-false _ (c .if3 .left)
 
 -- the frame is right
 frame : (c : tie.Else4) → framed (c .before .before .before .before .before .before .before .args .s .now) ≡ true
@@ -39,13 +39,13 @@ returns-2 : tie.Need-returns-2
 unfolding readBlock
 returns-2 c = rw (le-leb 6 _ (c .before .if1 .left), lt-leb _ 256 (c .if2 .taken))
 
-is-seven-bit-requires : tie.Need-is-seven-bit-requires
-is-seven-bit-requires c κs = search needs
+are-requires : tie.Need-are-requires
+are-requires c κs = search needs
 
 returns-3 : tie.Need-returns-3
 unfolding readBlock
 returns-3 c =
-    let wide = sym (c .before .is-seven-bit .ensures) ∙ not-true _ (c .if3 .taken) in
+    let wide = sym (c .before .are .ensures) ∙ not-true _ (c .if3 .taken) in
     rw (within (c .before .before), wide)
 
 is-framed-requires : tie.Need-is-framed-requires
@@ -117,7 +117,7 @@ read-spec =
     returns
     add-if2
     returns-2
-    is-seven-bit-requires
+    are-requires
     returns-3
     is-framed-requires
     returns-4

@@ -20,14 +20,14 @@ returns-2 : tie.Need-returns-2
 unfolding writeBlock
 returns-2 c = wrote-refused Length _ (rw (le-ltb _ _ (c .before .if1 .left), lt-ltb 250 _ (c .if2 .taken)))
 
-is-seven-bit-requires : tie.Need-is-seven-bit-requires
-is-seven-bit-requires c κs = search needs
+are-requires : tie.Need-are-requires
+are-requires c κs = search needs
 
 returns-3 : tie.Need-returns-3
 unfolding writeBlock
 returns-3 c =
     let d = c .before .before in
-    let wide = sym (c .before .is-seven-bit .ensures) ∙ not-true _ (c .if3 .taken) in
+    let wide = sym (c .before .are .ensures) ∙ not-true _ (c .if3 .taken) in
     wrote-refused Parity _ (rw (le-ltb _ _ (d .before .if1 .left), le-ltb 250 _ (d .if2 .left), wide))
 
 is-right-requires : tie.Need-is-right-requires
@@ -38,7 +38,7 @@ unfolding writeBlock
 returns-4 c =
     let e = c .before .before in
     let d = e .before .before in
-    let narrow = sym (e .before .is-seven-bit .ensures) ∙ not-false _ (e .if3 .left) in
+    let narrow = sym (e .before .are .ensures) ∙ not-false _ (e .if3 .left) in
     let wrong = sym (c .before .is-right .ensures) ∙ not-true _ (c .if4 .taken) in
     wrote-refused Information _ (rw (le-ltb _ _ (d .before .if1 .left), le-ltb 250 _ (d .if2 .left), narrow, wrong))
 
@@ -58,7 +58,7 @@ returns-5 c =
     let e = f .before .before in
     let d = e .before .before in
     let a = d .before .before .before .before .args in
-    let narrow = sym (e .before .is-seven-bit .ensures) ∙ not-false _ (e .if3 .left) in
+    let narrow = sym (e .before .are .ensures) ∙ not-false _ (e .if3 .left) in
     let good = sym (f .before .is-right .ensures) ∙ not-false _ (f .if4 .left) in
     wrote-done (blockOf (a .info .now) (a .ending)) _ _ _ (rw (le-ltb _ _ (d .before .if1 .left), le-ltb 250 _ (d .if2 .left), narrow, good)) (sym (block-length (a .info .now) (a .ending))) (c .before .before .put-block .ensures)
 
@@ -69,7 +69,7 @@ write-spec =
     add-if1
     returns
     returns-2
-    is-seven-bit-requires
+    are-requires
     returns-3
     is-right-requires
     returns-4

@@ -18,11 +18,11 @@ use Rattle.block.proofs.listing.put_listing.Tie as tie
 narrow : (c : tie.Else2) →
     let line = c .before .before .before .before .before .args .line .now in
     (ltb 1999 (length line) ≡ false) × (all seven line ≡ true)
-narrow c = (le-ltb 1999 _ (c .before .before .if1 .left), sym (c .before .is-seven-bit .ensures) ∙ not-false _ (c .if2 .left))
+narrow c = (le-ltb 1999 _ (c .before .before .if1 .left), sym (c .before .are .ensures) ∙ not-false _ (c .if2 .left))
 
 -- of printable characters
 right : (c : tie.Else3) → all printable (c .before .before .before .before .before .before .before .args .line .now) ≡ true
-right c = sym (c .before .is-printable .ensures) ∙ not-false _ (c .if3 .left)
+right c = sym (c .before .are2 .ensures) ∙ not-false _ (c .if3 .left)
 
 -- that has a space
 spaces : (c : tie.Else4) → spaced (c .before .before .before .before .before .before .before .before .before .args .line .now) ≡ true
@@ -44,8 +44,8 @@ returns : tie.Need-returns
 unfolding listing
 returns c = rw (lt-ltb 1999 _ (c .before .before .before .before .if1 .taken)) (c .before .before .put-refusal .ensures)
 
-is-seven-bit-requires : tie.Need-is-seven-bit-requires
-is-seven-bit-requires c κs = search needs
+are-requires : tie.Need-are-requires
+are-requires c κs = search needs
 
 put-refusal-requires-2 : tie.Need-put-refusal-requires-2
 put-refusal-requires-2 c κs = search needs
@@ -57,11 +57,11 @@ returns-2 : tie.Need-returns-2
 unfolding listing
 returns-2 c =
     let d = c .before .before .before .before in
-    let wide = sym (d .before .is-seven-bit .ensures) ∙ not-true _ (d .if2 .taken) in
+    let wide = sym (d .before .are .ensures) ∙ not-true _ (d .if2 .taken) in
     rw (le-ltb 1999 _ (d .before .before .if1 .left), wide) (c .before .before .put-refusal2 .ensures)
 
-is-printable-requires : tie.Need-is-printable-requires
-is-printable-requires c κs = search needs
+are-requires-2 : tie.Need-are-requires-2
+are-requires-2 c κs = search needs
 
 put-refusal-requires-3 : tie.Need-put-refusal-requires-3
 put-refusal-requires-3 c κs = search needs
@@ -73,7 +73,7 @@ returns-3 : tie.Need-returns-3
 unfolding listing
 returns-3 c =
     let d = c .before .before .before .before in
-    let wrong = sym (d .before .is-printable .ensures) ∙ not-true _ (d .if3 .taken) in
+    let wrong = sym (d .before .are2 .ensures) ∙ not-true _ (d .if3 .taken) in
     rw (narrow (d .before .before) .0, narrow (d .before .before) .1, wrong) (c .before .before .put-refusal3 .ensures)
 
 first-space-requires : tie.Need-first-space-requires
@@ -119,11 +119,11 @@ put-listing-spec =
     put-refusal-requires
     same-length
     returns
-    is-seven-bit-requires
+    are-requires
     put-refusal-requires-2
     same-length-2
     returns-2
-    is-printable-requires
+    are-requires-2
     put-refusal-requires-3
     same-length-3
     returns-3

@@ -20,7 +20,7 @@ cut c =
 -- what is held is characters of a transaction
 text : (c : tie.Else2) → let a = c .before .before .before .before .before .before .args in all textual (held (a .state) (a .buffer .now)) ≡ true
 text c =
-    let good = sym (c .before .is-textual .ensures) ∙ not-false _ (c .if2 .left) in
+    let good = sym (c .before .are .ensures) ∙ not-false _ (c .if2 .left) in
     rw (← cut (c .before .before)) good
 
 returns : tie.Need-returns
@@ -34,13 +34,13 @@ slice-aggregate-held c =
     let a = c .before .before .before .before .args in
     c .before .least .ensures ∙ sym (length-take (a .state .length) (a .buffer .now)) ∙ rw (cut c)
 
-is-textual-requires : tie.Need-is-textual-requires
-is-textual-requires c κs = search needs
+are-requires : tie.Need-are-requires
+are-requires c κs = search needs
 
 returns-2 : tie.Need-returns-2
 returns-2 c =
     let d = c .before .before in
-    let wrong = sym (c .before .is-textual .ensures) ∙ not-true _ (c .if2 .taken) in
+    let wrong = sym (c .before .are .ensures) ∙ not-true _ (c .if2 .taken) in
     rw (le-leb _ 2000 (d .before .before .if1 .left), ← cut d, wrong)
 
 ends-in-cr-requires : tie.Need-ends-in-cr-requires
@@ -61,7 +61,7 @@ in-range-spec =
     returns
     least-requires
     slice-aggregate-held
-    is-textual-requires
+    are-requires
     returns-2
     ends-in-cr-requires
     returns-3

@@ -14,17 +14,17 @@ returns : tie.Need-returns
 unfolding parityOn
 returns c = wrote-refused Size _ (rw (lt-ltb _ _ (c .if1 .taken)))
 
-is-seven-bit-requires : tie.Need-is-seven-bit-requires
-is-seven-bit-requires c κs = search needs
+are-requires : tie.Need-are-requires
+are-requires c κs = search needs
 
 returns-2 : tie.Need-returns-2
 unfolding parityOn
 returns-2 c =
-    let odd = sym (c .before .is-seven-bit .ensures) ∙ not-true _ (c .if2 .taken) in
+    let odd = sym (c .before .are .ensures) ∙ not-true _ (c .if2 .taken) in
     wrote-refused Parity _ (rw (le-ltb _ _ (c .before .before .if1 .left), odd))
 
 put-parity-requires : tie.Need-put-parity-requires
-put-parity-requires c κs = (sym (c .before .before .is-seven-bit .ensures) ∙ not-false _ (c .before .if2 .left), c .before .before .before .if1 .left)
+put-parity-requires c κs = (sym (c .before .before .are .ensures) ∙ not-false _ (c .before .if2 .left), c .before .before .before .if1 .left)
 
 same-length : tie.Need-same-length
 same-length c = search needs
@@ -34,10 +34,10 @@ unfolding parityOn
 returns-3 c =
     let d = c .before .before .before .before in
     let a = d .before .before .before .before .before .args in
-    let all-pass = sym (d .before .is-seven-bit .ensures) ∙ not-false _ (d .if2 .left) in
+    let all-pass = sym (d .before .are .ensures) ∙ not-false _ (d .if2 .left) in
     wrote-done (map withParity (a .text .now)) _ _ _ (rw (le-ltb _ _ (d .before .before .if1 .left), all-pass)) (sym (length-map (a .text .now) withParity)) (c .before .before .put-parity .ensures)
 
 pub set-parity-spec : {M : Type 1} → statement M
 set-parity-spec =
     tie.close
-    (tie.spec returns is-seven-bit-requires returns-2 put-parity-requires same-length returns-3)
+    (tie.spec returns are-requires returns-2 put-parity-requires same-length returns-3)

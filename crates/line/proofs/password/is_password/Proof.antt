@@ -16,17 +16,17 @@ array-share-prefix-characters c =
     let six : length (c .before .before .args .password .characters) ≡ 6 = search needs in
     omega arith
 
-slice-aggregate-is-alphanumeric : tie.Need-slice-aggregate-is-alphanumeric
-slice-aggregate-is-alphanumeric c =
+slice-aggregate-are : tie.Need-slice-aggregate-are
+slice-aggregate-are c =
     let p = c .before .before .before .args .password in
     let six : length (p .characters) ≡ 6 = search needs in
     sym (length-take-le (p .length) (p .characters) (omega arith))
 
-is-alphanumeric-requires : tie.Need-is-alphanumeric-requires
-is-alphanumeric-requires c κs = search needs
+are-requires : tie.Need-are-requires
+are-requires c κs = search needs
 
 returns-2 : tie.Need-returns-2
-returns-2 c = rw (le-leb _ 6 (c .before .before .if1 .left)) (c .is-alphanumeric .ensures)
+returns-2 c = rw (le-leb _ 6 (c .before .before .if1 .left)) (c .are .ensures)
 
 pub is-password-spec : {M : Type 1} → statement M
 is-password-spec =
@@ -34,6 +34,6 @@ is-password-spec =
     (tie.spec
     returns
     array-share-prefix-characters
-    slice-aggregate-is-alphanumeric
-    is-alphanumeric-requires
+    slice-aggregate-are
+    are-requires
     returns-2)

@@ -18,24 +18,24 @@ returns-2 c =
     let n = length (c .before .before .before .args .info .now) in
     rw (le-leb 1 n (omega arith), lt-leb n 2000 (omega arith))
 
-is-seven-bit-requires : tie.Need-is-seven-bit-requires
-is-seven-bit-requires c κs = search needs
+are-requires : tie.Need-are-requires
+are-requires c κs = search needs
 
 returns-3 : tie.Need-returns-3
 unfolding ofTransaction
 returns-3 c =
-    let wide = sym (c .before .is-seven-bit .ensures) ∙ not-true _ (c .if3 .taken) in
+    let wide = sym (c .before .are .ensures) ∙ not-true _ (c .if3 .taken) in
     rw (le-leb 1 _ (c .before .before .before .if1 .left), le-leb _ 2000 (c .before .before .if2 .left), wide)
 
-is-textual-requires : tie.Need-is-textual-requires
-is-textual-requires c κs = search needs
+are-requires-2 : tie.Need-are-requires-2
+are-requires-2 c κs = search needs
 
 returns-4 : tie.Need-returns-4
 unfolding ofTransaction
 returns-4 c =
     let d = c .before .before in
-    let narrow = sym (d .before .is-seven-bit .ensures) ∙ not-false _ (d .if3 .left) in
-    let wrong = sym (c .before .is-textual .ensures) ∙ not-true _ (c .if4 .taken) in
+    let narrow = sym (d .before .are .ensures) ∙ not-false _ (d .if3 .left) in
+    let wrong = sym (c .before .are2 .ensures) ∙ not-true _ (c .if4 .taken) in
     rw (le-leb 1 _ (d .before .before .before .if1 .left), le-leb _ 2000 (d .before .before .if2 .left), narrow, wrong)
 
 ends-in-cr-requires : tie.Need-ends-in-cr-requires
@@ -46,8 +46,8 @@ unfolding ofTransaction
 returns-5 c =
     let d = c .before .before in
     let e = d .before .before in
-    let narrow = sym (e .before .is-seven-bit .ensures) ∙ not-false _ (e .if3 .left) in
-    let right = sym (d .before .is-textual .ensures) ∙ not-false _ (d .if4 .left) in
+    let narrow = sym (e .before .are .ensures) ∙ not-false _ (e .if3 .left) in
+    let right = sym (d .before .are2 .ensures) ∙ not-false _ (d .if4 .left) in
     let open-end = sym (c .before .ends-in-cr .ensures) ∙ not-true _ (c .if5 .taken) in
     rw (le-leb 1 _ (e .before .before .before .if1 .left), le-leb _ 2000 (e .before .before .if2 .left), narrow, right, open-end)
 
@@ -56,8 +56,8 @@ unfolding ofTransaction
 returns-6 c =
     let d = c .before .before in
     let e = d .before .before in
-    let narrow = sym (e .before .is-seven-bit .ensures) ∙ not-false _ (e .if3 .left) in
-    let right = sym (d .before .is-textual .ensures) ∙ not-false _ (d .if4 .left) in
+    let narrow = sym (e .before .are .ensures) ∙ not-false _ (e .if3 .left) in
+    let right = sym (d .before .are2 .ensures) ∙ not-false _ (d .if4 .left) in
     let end = sym (c .before .ends-in-cr .ensures) ∙ not-false _ (c .if5 .left) in
     rw (le-leb 1 _ (e .before .before .before .if1 .left), le-leb _ 2000 (e .before .before .if2 .left), narrow, right, end)
 
@@ -67,9 +67,9 @@ check-transaction-spec =
     (tie.spec
     returns
     returns-2
-    is-seven-bit-requires
+    are-requires
     returns-3
-    is-textual-requires
+    are-requires-2
     returns-4
     ends-in-cr-requires
     returns-5
