@@ -2,9 +2,11 @@
 // and a trailer that points back.
 pub mod append;
 pub mod cursor;
+pub mod held;
 pub mod record;
 
 pub use cursor::Opened;
 pub use cursor::Place;
 pub use cursor::Position;
 pub use cursor::Step;
+pub use held::Cursor;
