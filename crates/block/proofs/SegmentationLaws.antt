@@ -1,5 +1,5 @@
 -- Laws of the segmentation used here: it is a legal one, how many blocks it has, which each of them is, and how long they are one after the other.
-use mathlib.Core.Bool.{Bool, true, false, not, _&&_, and-eq-true-iff}
+use mathlib.Core.Bool.{Bool, true, false, and-eq-true-iff}
 use mathlib.Core.List.{List, [], _∷_, _++_, append-assoc, append-nil}
 use mathlib.Core.Path.{_≡_, refl, sym, ap, _∙_}
 use Prim.Native.Nat.{ℕ, zero, suc, _+_, _*_, _-_, _≤_, _<_, min}
@@ -10,10 +10,9 @@ use borrow.Author.Tests.{le-leb, leb-true}
 use lib.Dec.{eqb, leb, eqb·zero-suc, eqb·suc-suc}
 use lib.ListN.{length, getD, take, drop, length-append, length-take, length-drop, take-append-drop}
 use lib.Seq.{take-suc, take-all, take-take, drop-drop, length-take-le}
-use Rattle.line.specs.Answer.{Outcome, done, refused}
-use Rattle.line.specs.Character.{seven, textual}
+use Rattle.line.specs.Character.{textual}
 use Rattle.line.specs.Test.{if_then_else_, all}
-use Rattle.line.specs.Transaction.{Transaction, endsInCR, ofTransaction}
+use Rattle.line.specs.Transaction.{Transaction, endsInCR}
 use Rattle.line.proofs.AllLaws.{all-append}
 use Rattle.line.proofs.TransactionLaws.{transaction-legal, ends-append}
 use Rattle.block.specs.Block.{Segment, right, agrees}
@@ -107,10 +106,10 @@ between-right info some text = go (endsInCR info) refl
     go false e = (rw (e, e, text, le-leb 1 (length info) some), rw e)
 
 -- k + 1 blocks, of which all but the last are full, join to what they were cut from
-segments-join : (k : ℕ) (t : List ℕ) → 250 * k < length t → length t ≤ 250 * suc k → all textual t ≡ true → endsInCR t ≡ true → Joins (segments (suc k) t) t
+segments-cut : (k : ℕ) (t : List ℕ) → 250 * k < length t → length t ≤ 250 * suc k → all textual t ≡ true → endsInCR t ≡ true → Joins (segments (suc k) t) t
 unfolding segments agrees
-segments-join zero t full fits text end = last {info = t} fits (rw (text, end))
-segments-join (suc k) t full fits text end =
+segments-cut zero t full fits text end = last {info = t} fits (rw (text, end))
+segments-cut (suc k) t full fits text end =
     let info = take 250 t in
     let rest = drop 250 t in
     let whole = take-append-drop 250 t in
@@ -119,7 +118,7 @@ segments-join (suc k) t full fits text end =
     let rest-length = length-drop 250 t in
     let rest-end = joined-end info rest (omega arith) (rw whole end) in
     let (info-right, goes-on) = between-right info (omega arith) info-text in
-    let rest-joins = segments-join k rest (omega arith) (omega arith) rest-text rest-end in
+    let rest-joins = segments-cut k rest (omega arith) (omega arith) rest-text rest-end in
     rw whole at (more {info = info} {e = between info} (omega arith) info-right goes-on rest-joins)
 
 -- the segmentation of a transaction is a legal one
@@ -129,21 +128,9 @@ segmentation-legal t r =
     let (sizes, text) = and-eq-true-iff _ (all textual t) .0 others in
     let some = leb-true 1 (length t) (and-eq-true-iff (leb 1 (length t)) _ .0 sizes .0) in
     let (k, count, _, full, fits) = counted (length t) 0 (omega arith) in
-    record { transaction = r; joins = rw count (segments-join k t full fits text end) }
+    record { transaction = r; joins = rw count (segments-cut k t full fits text end) }
 
 -- ── What is refused ──
-
--- what is no transaction is refused by the same number, whatever is to be done with it
-pub of-refused : {A B : Type 0} (t : List ℕ) (x : A) (o : Outcome B) (n : ℕ) → refused n ≡ ofTransaction t (done x) → ofTransaction t o ≡ refused n
-unfolding ofTransaction
-of-refused t x o n h = go (leb 1 (length t) && leb (length t) 2000) (all seven t) (all textual t && endsInCR t) h
-  where
-    go : (l s e : Bool) → refused n ≡ (if not l then refused 2 else if not s then refused 3 else if not e then refused 6 else done x) →
-        (if not l then refused 2 else if not s then refused 3 else if not e then refused 6 else o) ≡ refused n
-    go true true true h = cc
-    go true true false h = cc
-    go true false e h = cc
-    go false s e h = cc
 
 -- ── The blocks one after the other ──
 

@@ -8,10 +8,10 @@ use Rattle.line.specs.Answer.{done}
 use Rattle.line.specs.Transaction.{ofTransaction}
 use Rattle.line.specs.declared.answer.Refusal.the-variants.{Range, Size}
 use Rattle.line.proofs.OverlayLaws.{wrote-refused}
-use Rattle.line.proofs.TransactionLaws.{of-legal, of-done}
+use Rattle.line.proofs.TransactionLaws.{of-legal, of-done, of-refused}
 use Rattle.block.specs.Segmentation.{segmentAt, segmentBlock, writeSegment}
 use Rattle.line.proofs.LaidLaws.{wrote-laid}
-use Rattle.block.proofs.SegmentationLaws.{segment-length, of-refused}
+use Rattle.block.proofs.SegmentationLaws.{segment-length}
 use Rattle.block.proofs.segmentation.write_segment.Statement.{statement}
 use Rattle.block.proofs.segmentation.write_segment.Tie as tie
 
@@ -72,7 +72,7 @@ returns-3 c =
     let d = c .before .before .before in
     let a = d .before .before .before .before .before .before .before .args in
     let refuses = rw (c .before .refusal .given .1) at (d .check-transaction .ensures) in
-    wrote-refused _ _ (passes (d .before) ∙ of-refused (a .info .now) _ _ _ refuses)
+    wrote-refused _ _ (passes (d .before) ∙ of-refused (a .info .now) _ _ _ (sym refuses))
 
 same-length : tie.Need-same-length
 same-length c = search needs

@@ -7,10 +7,9 @@ use Rattle.line.specs.Answer.{done}
 use Rattle.line.specs.Transaction.{ofTransaction}
 use Rattle.line.specs.declared.answer.Refusal.the-variants.{Size}
 use Rattle.line.proofs.OverlayLaws.{wrote-refused}
-use Rattle.line.proofs.TransactionLaws.{of-legal, of-done}
+use Rattle.line.proofs.TransactionLaws.{of-legal, of-done, of-refused}
 use Rattle.block.specs.Segmentation.{blocksOf, segmentation, writeSegments}
 use Rattle.line.proofs.LaidLaws.{wrote-laid}
-use Rattle.block.proofs.SegmentationLaws.{of-refused}
 use Rattle.block.proofs.segmentation.write_segments.Statement.{statement}
 use Rattle.block.proofs.segmentation.write_segments.Tie as tie
 
@@ -51,7 +50,7 @@ returns-2 c =
     let d = c .before .before .before in
     let a = d .before .before .before .before .before .args in
     let refuses = rw (c .before .refusal .given .1) at (d .check-transaction .ensures) in
-    wrote-refused _ _ (passes (d .before) ∙ of-refused (a .info .now) _ _ _ refuses)
+    wrote-refused _ _ (passes (d .before) ∙ of-refused (a .info .now) _ _ _ (sym refuses))
 
 same-length : tie.Need-same-length
 same-length c = search needs
