@@ -9,10 +9,12 @@ use native.Mathlib.Numerals.{add-one}
 use native.Mathlib.Omega.{arith}
 use lib.ListN.{length, getD, take, drop, drop-of-length-le, take-append-drop}
 use lib.Seq.{drop-cons}
-use borrow.Author.Tests.{eqb-true, eq-eqb, ne-eqb, leb-true, leb-false, ltb-false, lt-leb}
+use borrow.Author.Tests.{eqb-true, eq-eqb, ne-eqb, leb-true, leb-false, ltb-false, lt-leb, lt-ltb}
 use lib.Dec.{eqb, leb}
 use Rattle.line.specs.Test.{all, same, before, if_then_else_}
-use Rattle.line.specs.Character.{seven, alphanumeric}
+use Rattle.line.specs.Character.{seven, alphanumeric, byte}
+use mir.Syntax.{w8}
+use mir.Val.{Fits}
 
 -- a loop that has passed the members below i: the rest decides
 module _ (p : ℕ → Bool) (xs : List ℕ) (i : ℕ) (rest : all p xs ≡ all p (drop i xs)) where
@@ -65,6 +67,10 @@ pub all-each : (p : ℕ → Bool) (xs : List ℕ) → ((i : ℕ) → p (getD xs 
 unfolding all
 all-each p [] h = refl
 all-each p (x ∷ xs) h = rw (h zero, all-each p xs (λ i. h (suc i)))
+
+-- members that fit eight bits are bytes
+pub all-bytes : (b : List ℕ) → ((i : ℕ) → Fits w8 (getD b i 0)) → all byte b ≡ true
+all-bytes b fits = all-each byte b (λ i. lt-ltb (getD b i 0) 256 (omega (arith, fits i)))
 
 -- where one fails, not all pass
 pub all-fails : (p : ℕ → Bool) (xs : List ℕ) (i : ℕ) → p (getD xs i 0) ≡ false → i < length xs → all p xs ≡ false

@@ -4,4 +4,5 @@ pub mod LaidLaws
 pub mod OutcomeLaws
 pub mod OverlayLaws
 pub mod ParityLaws
+pub mod SameLaws
 pub mod TransactionLaws

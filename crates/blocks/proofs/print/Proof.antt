@@ -1,0 +1,138 @@
+-- `print` meets its contract: what waits stays where there is room for any line's listing behind it, and the listing is laid there.
+use mathlib.Core.List.{List}
+use mathlib.Core.Logic.{⊎-elim}
+use mathlib.Core.Path.{_≡_, sym, ap}
+use Prim.Native.Nat.{ℕ, _+_, _-_, _≤_}
+use native.Mathlib.Omega.{arith}
+use borrow.Author.Tests.{lt-ltb, le-ltb}
+use lib.ListN.{length, take, drop}
+use lib.Seq.{length-take-le}
+use Rattle.line.specs.Answer.{Laid, Wrote, writtenAs}
+use Rattle.line.specs.declared.answer.Written.{Written}
+use Rattle.line.specs.declared.answer.Written.the-variants.{Count}
+use Rattle.line.proofs.OverlayLaws.{overlay-own, refused-only}
+use Rattle.line.proofs.LaidLaws.{part-length, laid-within, laid-part}
+use Rattle.block.specs.Listing.{listing, listed}
+use Rattle.blocks.specs.Lines.{stays}
+use borrow.Author.Needs.{needs}
+use Rattle.blocks.proofs.print.Statement.{statement}
+use Rattle.blocks.proofs.print.Tie as tie
+
+-- how many of the waiting bytes stay, and that any line's listing has room behind them
+room : (c : tie.Joined1) →
+    let a = c .before .before .before .args in
+    (c .if1 .at ≡ stays (a .waiting) (length (a .out .now))) × (c .if1 .at + 10248 ≤ length (a .out .now))
+unfolding stays
+room c =
+    let a = c .before .before .before .args in
+    let (waits, fits) = c .before .before .before .pre in
+    ⊎-elim
+    (λ w. (rw (lt-ltb (length (a .out .now)) (a .waiting + 10248) (w .0 .taken)) (omega arith), omega arith))
+    (λ w. (rw (le-ltb (length (a .out .now)) (a .waiting + 10248) (w .0 .left)) (omega arith), omega arith))
+    (c .if1 .came)
+
+-- a listing that has room is laid
+listed-laid : {r : Written} (line m after : List ℕ) (n : ℕ) → 10248 ≤ length m → r ≡ Count n → Wrote (listed line (length m)) r m after → Laid (listing line) n m after
+unfolding listed
+listed-laid line m after n h e w =
+    let v = rw (le-ltb (length m) 10248 h) at w in
+    record { counts = cc (v .answers, ap writtenAs e); leaves = v .leaves }
+
+-- the listing is laid behind what stays, within the output
+laid : (c : tie.After-n) →
+    let d = c .before .before .before .before .before .before .before in
+    let out = d .before .before .before .args .out .now in
+    let at = d .if1 .at in
+    let n = c .n .given .0 .0 in
+    (at + n ≤ length out) × Laid (listing (d .before .before .before .args .line .now)) n (take (length out - at) (drop at out)) (c .before .before .before .before .list .last .1 .0)
+laid c =
+    let d = c .before .before .before .before .before .before .before in
+    let a = d .before .before .before .args in
+    let out = a .out .now in
+    let at = d .if1 .at in
+    let list = c .before .before .before .before .list in
+    let long = part-length at out in
+    let fits = room d .1 in
+    let done = listed-laid (a .line .now) (take (length out - at) (drop at out)) (list .last .1 .0) (c .n .given .0 .0) (rw long (omega arith)) (c .n .given .1) (list .ensures) in
+    (omega (arith, laid-within done, list .kept .1 .0), done)
+
+add-if1 : tie.Need-add-if1
+add-if1 c = search needs
+
+slice-reshare-prefix-write-all : tie.Need-slice-reshare-prefix-write-all
+slice-reshare-prefix-write-all c = search needs
+
+slice-aggregate-write-all : tie.Need-slice-aggregate-write-all
+slice-aggregate-write-all c = sym (length-take-le _ _ (c .before .before .before .before .pre .0))
+
+write-all-requires : tie.Need-write-all-requires
+write-all-requires c κs = search needs
+
+sub-list : tie.Need-sub-list
+sub-list c = omega (arith, room (c .before) .1)
+
+part-list-start : tie.Need-part-list-start
+part-list-start c = omega (arith, room (c .before) .1)
+
+part-list-end : tie.Need-part-list-end
+part-list-end c = search needs
+
+list-requires : tie.Need-list-requires
+list-requires c κs = search needs
+
+enum-known-n : tie.Need-enum-known-n
+enum-known-n c = search needs
+
+add-result : tie.Need-add-result
+add-result c = omega (arith, laid (c .before) .0)
+
+enum-told : tie.Need-enum-told
+enum-told c = search needs
+
+same-length : tie.Need-same-length
+same-length c = search needs
+
+returns : tie.Need-returns
+returns c =
+    let d = c .before .before .before .before .before .before .before .before in
+    let a = d .before .before .before .args in
+    let (within, done) = laid (c .before) in
+    let (stay, fits) = room d in
+    rw (← stay)
+    (laid-part (record { counts = sym (length-take-le (d .if1 .at) (a .out .now) (omega arith)); leaves = overlay-own (d .if1 .at) (a .out .now) (omega arith) }) (omega (arith, done .counts)) done)
+
+same-length-2 : tie.Need-same-length-2
+same-length-2 c = search needs
+
+returns-2 : tie.Need-returns-2
+unfolding listed
+returns-2 c =
+    let d = c .before .before .before .before .before .before .before in
+    let a = d .before .before .before .args in
+    let fits = room d .1 in
+    let long = part-length (d .if1 .at) (a .out .now) in
+    let list = c .before .before .before .before .list in
+    let room = le-ltb (length (take (length (a .out .now) - d .if1 .at) (drop (d .if1 .at) (a .out .now)))) 10248 (omega arith) in
+    let never = rw room at (refused-only (listed (a .line .now) (length (take (length (a .out .now) - d .if1 .at) (drop (d .if1 .at) (a .out .now))))) _ (c .enum-told .given .1) (list .ensures)) in
+    let z : _≡_ {A = ℕ} 0 1 = cc in
+    absurd (omega arith)
+
+pub print-spec : {M : Type 1} → statement M
+print-spec =
+    tie.close
+    (tie.spec
+    add-if1
+    slice-reshare-prefix-write-all
+    slice-aggregate-write-all
+    write-all-requires
+    sub-list
+    part-list-start
+    part-list-end
+    list-requires
+    enum-known-n
+    add-result
+    enum-told
+    same-length
+    returns
+    same-length-2
+    returns-2)

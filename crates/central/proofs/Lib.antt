@@ -1,0 +1,12 @@
+pub mod AnswerLaws
+pub mod CentralLaws
+pub mod ContentLaws
+pub mod HearingLaws
+pub mod KeepLaws
+pub mod RangeLaws
+pub mod ReactedLaws
+pub mod ReactionLaws
+pub mod SavedLaws
+pub mod StepLaws
+pub mod StoreLaws
+pub mod TextLaws

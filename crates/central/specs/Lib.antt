@@ -1,0 +1,5 @@
+pub mod Content
+pub mod Hearing
+pub mod Reaction
+pub mod Step
+pub mod Inner

@@ -1,0 +1,14 @@
+// The central: what it does with each string that comes off the line.
+pub mod admission;
+mod answer;
+mod logon;
+mod range;
+mod reaction;
+pub mod state;
+pub mod step;
+mod text;
+
+pub use state::Settings;
+pub use state::Stage;
+pub use state::State;
+pub use state::Stepped;
