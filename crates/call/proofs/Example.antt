@@ -1,0 +1,62 @@
+-- Document 01's three runs, by computation: pager list 123, job 123/ABC then 9/X, limits 0.
+use mathlib.Core.List.{List, [], _∷_, _++_}
+use mathlib.Core.Path.{_≡_, refl}
+use Prim.Native.Nat.{ℕ}
+use lib.Count.{ones}
+use Rattle.line.specs.Character.{CR}
+use Rattle.line.specs.Parity.{parityOff}
+use Rattle.line.specs.Test.{all, same}
+use Rattle.line.specs.Text.{bytesOf}
+use Rattle.line.specs.Transaction.{endsInCR}
+use Rattle.block.specs.Block.{blockOf, agrees, framed, summing, readBlock}
+use Rattle.block.specs.Checksum.{sum, checkCharacters}
+use Rattle.block.specs.Segmentation.{segments}
+use Rattle.journal.specs.Encoding.{recordOf, recordsOf}
+use Rattle.reply.specs.Reading.{restAfter, requests, accepts, codeRead, textRead, replyRead}
+use Rattle.central.specs.Content.{numberFrom, firstField, fieldCount, listed, admits}
+use Rattle.central.specs.Hearing.{recognized, heard}
+use Rattle.central.specs.Reaction.{reacts}
+use Rattle.device.specs.Bound.{jobBlocks}
+use Rattle.device.specs.Reaction.{moves}
+use Rattle.device.specs.declared.state.Verdict.the-variants.{Accepted, Rejected, Unconfirmed, Deferred, Unsent}
+use Rattle.call.specs.Faults.{damagesFrom, faulted}
+use Rattle.call.specs.Run.{Inputs, Outcome, responds, follows, exchange, after, run}
+
+-- 123/ABC
+abbrev stored : List ℕ
+stored = bytesOf "123" ++ CR ∷ bytesOf "ABC" ++ CR ∷ []
+
+-- 9/X, whose pager is not listed
+abbrev unlisted : List ℕ
+unlisted = bytesOf "9" ++ CR ∷ bytesOf "X" ++ CR ∷ []
+
+-- the job of both, into an empty journal
+abbrev inputs : Inputs
+inputs =
+    record {
+      job = stored ∷ unlisted ∷ [];
+      password = bytesOf "A1";
+      retries = 0;
+      rules = record { password = bytesOf "A1"; longest = 2000; retries = 0; pagers = 123 ∷ [] };
+      journal = [];
+    }
+
+-- its run over a list of faults
+unfoldable faulty : List ℕ → Outcome
+unfolding after exchange responds follows damagesFrom heard recognized reacts moves jobBlocks replyRead textRead codeRead requests accepts restAfter same all parityOff ones blockOf agrees framed summing readBlock sum checkCharacters segments recordOf recordsOf numberFrom firstField fieldCount listed admits endsInCR
+faulty faults = run inputs (faulted inputs faults)
+
+-- clean
+without-faults : faulty [] ≡ record { verdicts = Accepted ∷ Rejected ∷ []; journal = stored ∷ []; transmissions = 5 }
+unfolding faulty
+without-faults = refl
+
+-- the first block's reply garbled
+reply-garbled : faulty (0 ∷ 0 ∷ 1 ∷ []) ≡ record { verdicts = Unconfirmed ∷ Unsent ∷ []; journal = stored ∷ []; transmissions = 3 }
+unfolding faulty
+reply-garbled = refl
+
+-- the first block garbled
+block-garbled : faulty (0 ∷ 0 ∷ 3 ∷ []) ≡ record { verdicts = Deferred ∷ Unsent ∷ []; journal = []; transmissions = 3 }
+unfolding faulty
+block-garbled = refl

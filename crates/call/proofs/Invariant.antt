@@ -1,0 +1,412 @@
+-- A run follows the clean run as far as it goes: `Good` holds at its start and after each transmission.
+-- `Calm` is what must not hold where damage is done: ⊥ for any run, and Unit for one without damage, which then reaches the end of the job.
+use mathlib.Core.Bool.{Bool, true, false, not, _&&_, _||_, true≢false, false≢true}
+use mathlib.Core.List.{List, [], _∷_, _++_, foldl, foldl-append, append-assoc}
+use mathlib.Core.Logic.{_⊎_, inl, inr}
+use mathlib.Core.Path.{_≡_, refl, sym, _∙_, ap}
+use lib.Dec.{ltb, leb}
+use lib.Seq.{append-snoc}
+use Prim.Native.Nat.{ℕ, zero, suc}
+use Rattle.line.specs.Test.{if_then_else_}
+use Rattle.block.specs.Block.{Segment}
+use Rattle.central.specs.Reaction.{Answer, nothing, idRequest, acceptance, ack, nak, rs, hangUp}
+use Rattle.device.specs.declared.state.Verdict.{Verdict}
+use Rattle.device.specs.declared.state.Verdict.the-variants.{Accepted, Rejected, Unconfirmed, Deferred}
+use Rattle.call.specs.Demand.{decides}
+use Rattle.call.proofs.Messages.{last, Txn, Rules, Limits, hello, login, bye, blk, _is_, refused, Harm, whole, lost, garbled, Harms, harms, arrives, returns}
+use Rattle.call.proofs.Model.{Step, idle, closed, logon, blocks, Reply, takes, failure, hears, opening, loggingOn, closing, sending, stopped, Device, device, begin, acked, reads, World, world, answered, sent, exchange, run, start, played, haltsAt}
+use Rattle.call.proofs.CleanModel.{verdict, after, verdicts}
+use Rattle.call.proofs.Claim.{Laws, Pieces, final, piece, WellCut, cut-next}
+use Rattle.call.proofs.Tests.{deviceOf, branch}
+
+-- why a block is refused: f it fits, l it is the last, a the whole is admitted
+why-refused : (f l a : Bool) → not f || (l && not a) ≡ true → (f ≡ false) ⊎ ((l ≡ true) × (a ≡ false))
+why-refused false l a x = inl refl
+why-refused true false a x = absurd (false≢true x)
+why-refused true true false x = inr (refl, refl)
+why-refused true true true x = absurd (false≢true x)
+
+-- the last block passes only where the whole is admitted
+why-passed : (f l a : Bool) → l ≡ true → not f || (l && not a) ≡ false → a ≡ true
+why-passed f l true e x = refl
+why-passed false l false e x = absurd (true≢false x)
+why-passed true true false e x = absurd (true≢false x)
+why-passed true false false e x = absurd (false≢true e)
+
+-- what does not hold is false
+not-true : (c : Bool) → (c ≡ true → ⊥) → c ≡ false
+not-true true h = absurd (h refl)
+not-true false h = refl
+
+module _ (R : Rules) where
+  open Rules R using (J, admits, fits, match)
+
+  -- a block of t that is refused, when the information so far is q: the journal does not admit t
+  refused-not : (j : J) (t q : Txn) (b : Segment) → (last b ≡ true → q ≡ t) → (admits j t ≡ true → fits q ≡ true) →
+      refused R j q b ≡ true → admits j t ≡ false
+  refused-not j t q b w g x = go (why-refused (fits q) (last b) (admits j q) x)
+    where
+      go : (fits q ≡ false) ⊎ ((last b ≡ true) × (admits j q ≡ false)) → admits j t ≡ false
+      go (inl e) = not-true (admits j t) (λ y. false≢true (sym e ∙ g y))
+      go (inr (l, e)) = ap (admits j) (sym (w l)) ∙ e
+
+  -- the verdicts of two jobs one after the other
+  pub verdicts-append : (j : J) (ts us : List Txn) → verdicts R j (ts ++ us) ≡ verdicts R j ts ++ verdicts R (foldl (after R) j ts) us
+  unfolding verdicts
+  verdicts-append j [] us = refl
+  verdicts-append j (t ∷ ts) us = ap (_∷_ (verdict R j t)) (verdicts-append (after R j t) ts us)
+
+  -- behind the first transaction a job is well cut
+  well-cut-tail : {t : Txn} {ts : List Txn} → WellCut R (t ∷ ts) → WellCut R ts
+  well-cut-tail (cut-next p c) = c
+
+  -- the first transaction is cut into its pieces
+  well-cut-head : {t : Txn} {ts : List Txn} → WellCut R (t ∷ ts) → Pieces t (R .cut t .first) (R .cut t .more)
+  well-cut-head (cut-next p c) = p
+
+  -- a failure leaves the journal as it is
+  failure-keeps : (L : Limits) (at : ℕ → Step) (f : ℕ) (j : J) → failure R L at f j .journal ≡ j
+  unfolding failure
+  failure-keeps L at f j = branch (λ (r : Reply J). r .journal ≡ j) (ltb f (L .C)) (λ e. refl) (λ e. refl)
+
+  -- so does the close
+  bye-keeps : (L : Limits) (h : Harm) (s : Step) (j : J) → hears R L s j (arrives h bye) .journal ≡ j
+  unfolding hears
+  bye-keeps L lost s j = refl
+  bye-keeps L whole idle j = refl
+  bye-keeps L whole (logon f) j = failure-keeps L logon f j
+  bye-keeps L whole (blocks f p) j = refl
+  bye-keeps L whole closed j = refl
+  bye-keeps L garbled idle j = refl
+  bye-keeps L garbled (logon f) j = failure-keeps L logon f j
+  bye-keeps L garbled (blocks f p) j = failure-keeps L (λ n. blocks n p) f j
+  bye-keeps L garbled closed j = refl
+
+  module _ (j : J) (t : Txn) where
+    -- an admitted transaction is accepted
+    verdict-accepted : admits j t ≡ true → verdict R j t ≡ Accepted
+    unfolding verdict
+    verdict-accepted e = rw e
+
+    -- any other is rejected
+    verdict-rejected : admits j t ≡ false → verdict R j t ≡ Rejected
+    unfolding verdict
+    verdict-rejected e = rw e
+
+    -- an admitted transaction is put
+    after-accepted : admits j t ≡ true → after R j t ≡ R .put j t
+    unfolding after
+    after-accepted e = rw e
+
+    -- any other changes nothing
+    after-rejected : admits j t ≡ false → after R j t ≡ j
+    unfolding after
+    after-rejected e = rw e
+
+  module _ (job : List Txn) (j₀ : J) where
+    -- the verdicts told and the journal j are those of the clean run, up to where `left` is left
+    pub record Reached (left : List Txn) (told : List Verdict) (j : J) : Type 0 where
+      pub done : List Txn
+      pub job-is : job ≡ done ++ left
+      pub told-is : told ≡ verdicts R j₀ done
+      pub journal-is : j ≡ foldl (after R) j₀ done
+      pub known : (done ≡ []) ⊎ (match ≡ true)
+      pub well-cut : WellCut R left
+
+    -- the start of the job is reached
+    reached-start : WellCut R job → Reached job [] j₀
+    unfolding verdicts
+    reached-start c = record { done = []; job-is = refl; told-is = refl; journal-is = refl; known = inl refl; well-cut = c }
+
+    -- one transaction further
+    reached-next : {t : Txn} {ts : List Txn} {told : List Verdict} {j : J} → match ≡ true → Reached (t ∷ ts) told j →
+        Reached ts (told ++ verdict R j t ∷ []) (after R j t)
+    unfolding verdicts
+    reached-next {t} {ts} {told} {j} m r =
+        record {
+          done = r .done ++ t ∷ [];
+          job-is = r .job-is ∙ sym (append-snoc (r .done) t ts);
+          told-is = rw (verdicts-append, ← (r .journal-is), r .told-is);
+          journal-is = rw (foldl-append, r .journal-is);
+          known = inr m;
+          well-cut = well-cut-tail (r .well-cut);
+        }
+
+    module _ (Calm : Type 0) where
+      -- how a run may end: with nothing under way, or in a transaction that it leaves undecided
+      pub data Ended : List Txn → List Verdict → J → Type 0 where
+        quit : {left : List Txn} {told : List Verdict} {j : J} → Reached left told j → (Calm → match ≡ true → left ≡ []) → Ended left told j
+        broke : {t : Txn} {left : List Txn} {told : List Verdict} {v : Verdict} {j j′ : J} → match ≡ true → Reached (t ∷ left) told j →
+            decides v ≡ false → (j′ ≡ j) ⊎ ((j′ ≡ after R j t) × (v ≡ Unconfirmed)) → ¬ Calm → Ended left (told ++ v ∷ []) j′
+
+      -- where the central may be while the device opens the call
+      data Waiting : Step → Type 0 where
+        at-idle : Waiting idle
+        at-logon : {f : ℕ} → Waiting (logon f)
+        at-closed : ¬ Calm → Waiting closed
+
+      -- the invariant: the device at a place, the central at the step that goes with it, and what is reached
+      data Good : World J → Type 0 where
+        is-opening : {a : ℕ} {s : Step} → Waiting s → Good (world (device (opening a) job []) s j₀)
+        is-logging-on : {a f : ℕ} → Good (world (device (loggingOn a) job []) (logon f) j₀)
+        is-sending : {a f : ℕ} {t u : Txn} {ts : List Txn} {told : List Verdict} {b : Segment} {bs : List Segment} {p : List ℕ} {j : J} →
+            match ≡ true → Reached (t ∷ ts) told j → Pieces u b bs → p ++ u ≡ t →
+            Good (world (device (sending b bs a) (t ∷ ts) told) (blocks f p) j)
+        is-closing : {a : ℕ} {told : List Verdict} {s : Step} {j : J} → Reached [] told j → Good (world (device (closing a) [] told) s j)
+        is-stopped : {left : List Txn} {told : List Verdict} {s : Step} {j : J} → Ended left told j → Good (world (device stopped left told) s j)
+
+      -- harm is allowed only where nothing calls for calm
+      abbrev Allowed : Harm → Type 0
+      Allowed whole = Unit {0}
+      Allowed lost = ¬ Calm
+      Allowed garbled = ¬ Calm
+
+      -- without calm every harm is allowed
+      allowed : (h : Harm) → ¬ Calm → Allowed h
+      allowed whole n = tt
+      allowed lost n = n
+      allowed garbled n = n
+
+      -- damage is allowed only where nothing calls for calm
+      abbrev pub Undamaged : List Harms → Type 0
+      Undamaged [] = Unit {0}
+      Undamaged (m ∷ ms) = ¬ Calm
+
+      -- without calm every list of damage is allowed
+      pub undamaged : (ms : List Harms) → ¬ Calm → Undamaged ms
+      undamaged [] n = tt
+      undamaged (m ∷ ms) n = n
+
+      -- the device goes on with the first transaction left
+      good-begin : {left : List Txn} {told : List Verdict} {j : J} {f : ℕ} → match ≡ true → Reached left told j →
+          Good (world (begin R left told) (blocks f []) j)
+      unfolding begin
+      good-begin {left = []} m r = is-closing r
+      good-begin {left = t ∷ ts} m r = is-sending m r (well-cut-head (r .well-cut)) refl
+
+      module _ (laws : Laws R) (L : Limits) (start : Reached job [] j₀) where
+        -- the world after the device d got the reply r
+        abbrev Then : Harm → Device → Reply J → Type 0
+        Then k d r = Good (answered R L k d r)
+
+        -- an answer that is not y is not read as y
+        not-read : (k : Harm) (x y : Answer) → x is y ≡ false → nothing is y ≡ false → returns k x is y ≡ false
+        not-read whole x y e n = e
+        not-read lost x y e n = n
+        not-read garbled x y e n = n
+
+        -- ── Opening ──
+
+        -- an answer that is no ID request: the device opens once more, or stops
+        reopens : (k : Harm) (a : ℕ) (s : Step) (x : Answer) → x is idRequest ≡ false → ¬ Calm → Waiting s →
+            Then k (device (opening a) job []) (record { step = s; journal = j₀; answer = x })
+        unfolding answered reads
+        reopens k a s x e n w =
+            let P : Device → Type 0 = λ d. Good (world d s j₀) in
+            branch P (returns k x is idRequest) (λ e′. absurd (false≢true (sym (not-read k x idRequest e refl) ∙ e′)))
+            (λ e′. branch P (ltb a 3) (λ e′. is-opening w) (λ e′. is-stopped (quit start (λ c. absurd (n c)))))
+
+        -- an ID request
+        opened : (k : Harm) → Allowed k → (a f : ℕ) → Then k (device (opening a) job []) (record { step = logon f; journal = j₀; answer = idRequest })
+        unfolding answered reads
+        opened whole n a f = is-logging-on
+        opened lost n a f = reopens lost a (logon f) nothing refl n at-logon
+        opened garbled n a f = reopens garbled a (logon f) nothing refl n at-logon
+
+        -- the invariant is kept while the device opens
+        good-opening : (h k : Harm) → Allowed h → Allowed k → (a : ℕ) (s : Step) → Waiting s →
+            Then k (device (opening a) job []) (hears R L s j₀ (arrives h hello))
+        unfolding hears failure
+        good-opening whole k n m a s at-idle = opened k m a 0
+        good-opening whole k n m a s (at-logon {f = f}) = opened k m a f
+        good-opening whole k n m a s (at-closed c) = reopens k a closed nothing refl c (at-closed c)
+        good-opening lost k n m a s w = reopens k a s nothing refl n w
+        good-opening garbled k n m a s at-idle = reopens k a idle nothing refl n at-idle
+        good-opening garbled k n m a s (at-logon {f = f}) =
+            branch (Then k (device (opening a) job [])) (ltb f (L .C))
+            (λ e. reopens k a (logon (suc f)) nak refl n at-logon) (λ e. reopens k a closed hangUp refl n (at-closed n))
+        good-opening garbled k n m a s (at-closed c) = reopens k a closed nothing refl c (at-closed c)
+
+        -- ── Logging on ──
+
+        -- the central hangs up, or does not answer
+        gives-up : (k : Harm) (a : ℕ) (s : Step) (hung : Bool) → (Calm → match ≡ true → job ≡ []) →
+            Then k (device (loggingOn a) job []) (record { step = s; journal = j₀; answer = if hung then hangUp else nothing })
+        unfolding answered reads
+        gives-up whole a s true q = is-stopped (quit start q)
+        gives-up whole a s false q = is-stopped (quit start q)
+        gives-up lost a s hung q = is-stopped (quit start q)
+        gives-up garbled a s hung q = is-stopped (quit start q)
+
+        -- NAK to a logon
+        tries-again : (k : Harm) (a f : ℕ) → (Calm → match ≡ true → job ≡ []) →
+            Then k (device (loggingOn a) job []) (record { step = logon f; journal = j₀; answer = nak })
+        unfolding answered reads
+        tries-again whole a f q =
+            branch (λ d. Good (world d (logon f) j₀)) (leb a (L .D)) (λ e. is-logging-on) (λ e. is-stopped (quit start q))
+        tries-again lost a f q = is-stopped (quit start q)
+        tries-again garbled a f q = is-stopped (quit start q)
+
+        -- a failure at the logon
+        logon-fails : (k : Harm) (a f : ℕ) → (Calm → match ≡ true → job ≡ []) → Then k (device (loggingOn a) job []) (failure R L logon f j₀)
+        unfolding failure
+        logon-fails k a f q =
+            branch (Then k (device (loggingOn a) job [])) (ltb f (L .C)) (λ e. tries-again k a (suc f) q) (λ e. gives-up k a closed true q)
+
+        -- an acceptance
+        logged-on : (k : Harm) → Allowed k → (a : ℕ) → match ≡ true →
+            Then k (device (loggingOn a) job []) (record { step = blocks 0 []; journal = j₀; answer = acceptance })
+        unfolding answered reads
+        logged-on whole n a e = good-begin e start
+        logged-on lost n a e = is-stopped (quit start (λ c. absurd (n c)))
+        logged-on garbled n a e = is-stopped (quit start (λ c. absurd (n c)))
+
+        -- the invariant is kept while the device logs on
+        good-logging-on : (h k : Harm) → Allowed h → Allowed k → (a f : ℕ) →
+            Then k (device (loggingOn a) job []) (hears R L (logon f) j₀ (arrives h login))
+        unfolding hears
+        good-logging-on whole k n m a f =
+            branch (Then k (device (loggingOn a) job [])) match (logged-on k m a) (λ e. logon-fails k a f (λ c e′. absurd (false≢true (sym e ∙ e′))))
+        good-logging-on lost k n m a f = gives-up k a (logon f) false (λ c. absurd (n c))
+        good-logging-on garbled k n m a f = logon-fails k a f (λ c. absurd (n c))
+
+        -- ── Sending ──
+
+        module _ (match-is : match ≡ true) {t : Txn} {ts : List Txn} {told : List Verdict} {j : J} (r : Reached (t ∷ ts) told j) where
+          -- the transaction is accepted
+          accepted-next : admits j t ≡ true → Reached ts (told ++ Accepted ∷ []) (R .put j t)
+          accepted-next e = rw (verdict-accepted j t e, after-accepted j t e) at (reached-next match-is r)
+
+          -- the transaction is rejected
+          rejected-next : admits j t ≡ false → Reached ts (told ++ Rejected ∷ []) j
+          rejected-next e = rw (verdict-rejected j t e, after-rejected j t e) at (reached-next match-is r)
+
+          -- the device stops in the transaction, and the journal is as it was
+          breaks : (v : Verdict) {s : Step} → decides v ≡ false → ¬ Calm → Good (world (device stopped ts (told ++ v ∷ [])) s j)
+          breaks v e n = is-stopped (broke match-is r e (inl refl) n)
+
+          -- ACK to the last block
+          accepts : (k : Harm) → Allowed k → (b : Segment) (a : ℕ) → admits j t ≡ true →
+              Then k (device (sending b [] a) (t ∷ ts) told) (record { step = blocks 0 []; journal = R .put j t; answer = ack })
+          unfolding answered reads acked
+          accepts whole n b a e = good-begin match-is (accepted-next e)
+          accepts lost n b a e = is-stopped (broke match-is r refl (inr (sym (after-accepted j t e), refl)) n)
+          accepts garbled n b a e = is-stopped (broke match-is r refl (inr (sym (after-accepted j t e), refl)) n)
+
+          -- RS
+          rejects : (k : Harm) → Allowed k → (b : Segment) (bs : List Segment) (a : ℕ) → admits j t ≡ false →
+              Then k (device (sending b bs a) (t ∷ ts) told) (record { step = blocks 0 []; journal = j; answer = rs })
+          unfolding answered reads
+          rejects whole n b bs a e = good-begin match-is (rejected-next e)
+          rejects lost n b bs a e = breaks Unconfirmed refl n
+          rejects garbled n b bs a e = breaks Unconfirmed refl n
+
+          -- ACK to a block that is not the last
+          goes-on : (k : Harm) → Allowed k → {u : Txn} (b c : Segment) (bs : List Segment) (a : ℕ) (p : List ℕ) → Pieces u c bs → p ++ u ≡ t →
+              Then k (device (sending b (c ∷ bs) a) (t ∷ ts) told) (record { step = blocks 0 p; journal = j; answer = ack })
+          unfolding answered reads acked
+          goes-on whole n b c bs a p x e = is-sending match-is r x e
+          goes-on lost n b c bs a p x e = breaks Unconfirmed refl n
+          goes-on garbled n b c bs a p x e = breaks Unconfirmed refl n
+
+          -- no answer
+          hears-nothing : (k : Harm) → ¬ Calm → (b : Segment) (bs : List Segment) (a : ℕ) (s : Step) →
+              Then k (device (sending b bs a) (t ∷ ts) told) (record { step = s; journal = j; answer = nothing })
+          unfolding answered reads
+          hears-nothing whole n b bs a s = breaks Unconfirmed refl n
+          hears-nothing lost n b bs a s = breaks Unconfirmed refl n
+          hears-nothing garbled n b bs a s = breaks Unconfirmed refl n
+
+          -- the central hangs up
+          hears-hangup : (k : Harm) → ¬ Calm → (b : Segment) (bs : List Segment) (a : ℕ) (s : Step) →
+              Then k (device (sending b bs a) (t ∷ ts) told) (record { step = s; journal = j; answer = hangUp })
+          unfolding answered reads
+          hears-hangup whole n b bs a s = breaks Deferred refl n
+          hears-hangup lost n b bs a s = breaks Unconfirmed refl n
+          hears-hangup garbled n b bs a s = breaks Unconfirmed refl n
+
+          -- NAK: the central took nothing, so the block may be sent again
+          hears-nak : (k : Harm) → ¬ Calm → {u : Txn} (b : Segment) (bs : List Segment) (a f : ℕ) (p : List ℕ) → Pieces u b bs → p ++ u ≡ t →
+              Then k (device (sending b bs a) (t ∷ ts) told) (record { step = blocks f p; journal = j; answer = nak })
+          unfolding answered reads
+          hears-nak whole n b bs a f p x e =
+              branch (λ d. Good (world d (blocks f p) j)) (leb a (L .D)) (λ e′. is-sending match-is r x e) (λ e′. breaks Deferred refl n)
+          hears-nak lost n b bs a f p x e = breaks Unconfirmed refl n
+          hears-nak garbled n b bs a f p x e = breaks Unconfirmed refl n
+
+          -- a block that arrives whole
+          block-taken : (k : Harm) → Allowed k → {u : Txn} (b : Segment) (bs : List Segment) (a : ℕ) (p : List ℕ) → Pieces u b bs → p ++ u ≡ t →
+              Then k (device (sending b bs a) (t ∷ ts) told) (takes R j (p ++ b .info) b)
+          unfolding takes
+          block-taken k n b bs a p (final l) e =
+              let P = Then k (device (sending b [] a) (t ∷ ts) told) in
+              rw e
+              (branch P (refused R j t b) (λ x. rejects k n b [] a (refused-not j t t b (λ y. refl) (laws .admits-fits j t) x))
+              (λ x. branch P (last b) (λ y. accepts k n b a (why-passed (fits t) (last b) (admits j t) l x)) (λ y. absurd (false≢true (sym y ∙ l)))))
+          block-taken k n b bs a p (piece {t = u} {c = c} {bs = bs′} l x) e =
+              let P = Then k (device (sending b (c ∷ bs′) a) (t ∷ ts) told) in
+              branch P (refused R j (p ++ b .info) b)
+              (λ y. rejects k n b (c ∷ bs′) a (refused-not j t (p ++ b .info) b (λ z. absurd (false≢true (sym l ∙ z)))
+              (λ z. laws .fits-prefix (p ++ b .info) u (rw (append-assoc, e) (laws .admits-fits j t z))) y))
+              (λ y. branch P (last b) (λ z. absurd (false≢true (sym l ∙ z))) (λ z. goes-on k n b c bs′ a (p ++ b .info) x (append-assoc p (b .info) u ∙ e)))
+
+          -- the invariant is kept while the device sends
+          good-sending : (h k : Harm) → Allowed h → Allowed k → {u : Txn} (b : Segment) (bs : List Segment) (a f : ℕ) (p : List ℕ) → Pieces u b bs → p ++ u ≡ t →
+              Then k (device (sending b bs a) (t ∷ ts) told) (hears R L (blocks f p) j (arrives h (blk b)))
+          unfolding hears failure
+          good-sending whole k n m b bs a f p x e = block-taken k m b bs a p x e
+          good-sending lost k n m b bs a f p x e = hears-nothing k n b bs a (blocks f p)
+          good-sending garbled k n m b bs a f p x e =
+              branch (Then k (device (sending b bs a) (t ∷ ts) told)) (ltb f (L .C))
+              (λ e′. hears-nak k n b bs a (suc f) p x e) (λ e′. hears-hangup k n b bs a closed)
+
+        -- ── Closing ──
+
+        -- the invariant is kept while the device closes
+        good-closing : (h k : Harm) (a : ℕ) (told : List Verdict) (s : Step) (j : J) → Reached [] told j →
+            Then k (device (closing a) [] told) (hears R L s j (arrives h bye))
+        unfolding answered reads
+        good-closing h k a told s j r =
+            let x = hears R L s j (arrives h bye) in
+            rw (bye-keeps L h s j)
+            (branch (λ (d : Device). Good (world d (x .step) j)) (returns k (x .answer) is nak && leb a (L .D))
+            (λ e. is-closing r) (λ e. is-stopped (quit r (λ c e. refl))))
+
+        -- ── Every place ──
+
+        -- every transmission keeps the invariant
+        good-exchange : (h k : Harm) → Allowed h → Allowed k → {w : World J} → Good w → Good (exchange R L (harms h k) w)
+        unfolding exchange sent
+        good-exchange h k n m (is-opening {a = a} {s = s} w) = good-opening h k n m a s w
+        good-exchange h k n m (is-logging-on {a = a} {f = f}) = good-logging-on h k n m a f
+        good-exchange h k n m (is-sending {a = a} {f = f} {b = b} {bs = bs} {p = p} i r x e) = good-sending i r h k n m b bs a f p x e
+        good-exchange h k n m (is-closing {a = a} {told = told} {s = s} {j = j} r) = good-closing h k a told s j r
+        good-exchange h k n m (is-stopped e) = is-stopped e
+
+        -- so does every run
+        good-run : (n : ℕ) (ms : List Harms) → Undamaged ms → {w : World J} → Good w → Good (run R L n ms w)
+        unfolding run
+        good-run zero ms q g = g
+        good-run (suc n) [] q g = good-run n [] q (good-exchange whole whole tt tt g)
+        good-run (suc n) (harms h k ∷ ms) q g = good-run n ms (undamaged ms q) (good-exchange h k (allowed h q) (allowed k q) g)
+
+      -- a world in which a run has ended so
+      abbrev pub EndOf : World J → Type 0
+      EndOf (world (device p left told) s j) = Ended left told j
+
+      -- where the device has stopped, the run has ended
+      good-end : {w : World J} → Good w → haltsAt (deviceOf w) ≡ true → EndOf w
+      good-end (is-opening w) e = absurd (false≢true e)
+      good-end is-logging-on e = absurd (false≢true e)
+      good-end (is-sending i r x q) e = absurd (false≢true e)
+      good-end (is-closing r) e = absurd (false≢true e)
+      good-end (is-stopped x) e = x
+
+      -- it holds of every run
+      played-good : Laws R → (L : Limits) → WellCut R job → (n : ℕ) (ms : List Harms) → Undamaged ms → Good (played R L n job j₀ ms)
+      unfolding played
+      played-good laws L c n ms q = good-run laws L (reached-start c) n ms q (is-opening at-idle)
+
+      -- what a run comes to once the device has stopped
+      pub played-end : Laws R → (L : Limits) → WellCut R job → (n : ℕ) (ms : List Harms) → Undamaged ms → haltsAt (deviceOf (played R L n job j₀ ms)) ≡ true → EndOf (played R L n job j₀ ms)
+      played-end laws L c n ms q = good-end (played-good laws L c n ms q)

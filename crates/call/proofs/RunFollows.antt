@@ -1,0 +1,201 @@
+-- A run does what the model's run does, where its list of damage is fair: whole strings are heard and read as meant, and other bytes are noise.
+use mathlib.Core.Bool.{Bool, true, false, false≢true}
+use mathlib.Core.List.{List, [], _∷_, map}
+use mathlib.Core.Logic.{inl, inr}
+use mathlib.Core.Option.{some}
+use mathlib.Core.Path.{_≡_, refl, sym, _∙_, ap}
+use Prim.Native.Nat.{ℕ, zero, suc, _≤_}
+use native.Mathlib.Omega.{arith}
+use lib.Dec.{eqb}
+use lib.ListN.{length}
+use Rattle.line.specs.Answer.{Outcome, done, refused}
+use Rattle.line.specs.Character.{CR, EOT, seven}
+use Rattle.line.specs.Parity.{withParity, parityOff}
+use Rattle.line.specs.Test.{all, same}
+use Rattle.block.specs.Block.{Segment, readBlock}
+use Rattle.reply.proofs.GrammarLaws.{empty-unrecognized, written-read}
+use Rattle.reply.specs.Reading.{replyRead}
+use Rattle.reply.specs.declared.Reply.the-variants.{Unrecognized}
+use Rattle.line.proofs.OutcomeLaws.{choice}
+use Rattle.central.proofs.HearingLaws.{heard-empty, sent-heard}
+use Rattle.central.specs.Hearing.{Heard, logsOn, heardBlock, recognized, heardText, heard}
+use Rattle.central.specs.Hearing as Hearing
+use Rattle.central.specs.Reaction.{Answer, nothing, idRequest, acceptance, ack, nak, rs, hangUp, Central, Reaction, reacts, answerBytes}
+use Rattle.central.specs.declared.state.Stage.{Stage}
+use Rattle.central.specs.declared.state.Stage.the-variants.{Idle, Logon, Block, Closed}
+use Rattle.device.proofs.StringLaws.{string-short, string-seven, string-some}
+use Rattle.device.specs.Reaction.{moves, stringText}
+use Rattle.device.specs.declared.state.Step.{Step}
+use Rattle.device.specs.declared.state.Step.the-variants.{Stopped}
+use Rattle.device.specs.declared.state.Verdict.{Verdict}
+use Rattle.call.specs.Demand.{Replaced, Unheard, Unread, FairAt, FairFor}
+use Rattle.call.specs.Run.{Damage, noted, hit, Damages, next, Inputs, Ends, answer, responds, follows, exchange, after}
+use Rattle.call.specs.Run as Run
+use Rattle.call.proofs.CentralFollows.{Says, says-hello, says-login, says-block, says-bye, SameCentral, SameReply, hears-same, noise-same, silence-same}
+use Rattle.call.proofs.DeviceFollows.{readAs, Same, same-opening, same-logon, same-sending, same-closing, same-stopped, moves-same, same-exists, same-block}
+use Rattle.call.proofs.Messages.{Call, hello, login, bye, blk, Harm, whole, lost, garbled, Harms, harms, arrives, returns}
+use Rattle.call.proofs.Instance.{Legal, model, limits}
+use Rattle.call.proofs.Model.{hears, Device, World, world, answered, sent}
+use Rattle.call.proofs.Model as Model
+
+-- ── Damage ──
+
+-- what damage is to the model; no bytes at all are nothing
+abbrev pub harmed : Damage → Harm
+harmed Run.whole = whole
+harmed Run.nothing = lost
+harmed (Run.other []) = lost
+harmed (Run.other (b ∷ bs)) = garbled
+
+-- the damage to one transmission
+abbrev pub harmsOf : Damage × Damage → Harms
+harmsOf d = harms (harmed (d .0)) (harmed (d .1))
+
+-- ── What is heard ──
+
+-- something was heard
+abbrev sounds : Heard → Bool
+sounds Hearing.silence = false
+sounds Hearing.noise = true
+sounds Hearing.hello = true
+sounds Hearing.bye = true
+sounds Hearing.misfit = true
+sounds (Hearing.logon text) = true
+sounds (Hearing.block g) = true
+
+-- a text is not silence
+recognized-sounds : (stage : Stage) (t : List ℕ) → sounds (recognized stage t) ≡ true
+unfolding recognized
+recognized-sounds Idle t = choice (λ h. sounds h ≡ true) (same t (CR ∷ [])) (λ _. refl) (λ _. refl)
+recognized-sounds Logon t = choice (λ h. sounds h ≡ true) (same t (CR ∷ [])) (λ _. refl) (λ _. choice (λ h. sounds h ≡ true) (logsOn t) (λ _. refl) (λ _. refl))
+recognized-sounds Block t = choice (λ h. sounds h ≡ true) (same t (EOT ∷ CR ∷ [])) (λ _. refl) (λ _. go (readBlock t))
+  where
+    go : (o : Outcome Segment) → sounds (heardBlock o) ≡ true
+    go (done g) = refl
+    go (refused n) = choice (λ h. sounds h ≡ true) (eqb n 6) (λ _. refl) (λ _. refl)
+recognized-sounds Closed t = refl
+
+-- nor is a string that is not empty
+heard-sounds : (stage : Stage) (b : ℕ) (bs : List ℕ) → sounds (heard stage (b ∷ bs)) ≡ true
+unfolding heard
+heard-sounds stage b bs = go (parityOff (b ∷ bs) 256)
+  where
+    go : (o : Outcome (List ℕ)) → sounds (heardText stage o) ≡ true
+    go (done t) = recognized-sounds stage t
+    go (refused n) = refl
+
+-- bytes in which nothing is recognized, where there are any, are noise
+unheard-noise : (stage : Stage) (b : ℕ) (bs : List ℕ) → Unheard stage (b ∷ bs) → heard stage (b ∷ bs) ≡ Hearing.noise
+unheard-noise stage b bs (inl e) = e
+unheard-noise stage b bs (inr e) = absurd (false≢true (ap sounds (sym e) ∙ heard-sounds stage b bs))
+
+-- a string that the line carries
+module _ (i : Inputs) where
+  -- the central does with what arrives what the model's does
+  arrives-same : (t : List ℕ) → all seven t ≡ true → length t ≤ 256 → 1 ≤ length t → {x : Call} → Says i t x →
+      {c : Central} {s : Model.Step} {j : List (List ℕ)} → SameCentral i c s j → (d : Damage) → Replaced (Unheard (c .stage)) d (map withParity t) →
+      SameReply i (reacts (i .rules) c (c .stage) (heard (c .stage) (hit d (map withParity t)))) (hears (model i) (limits i) s j (arrives (harmed d) x))
+  arrives-same [] narrow short filled says both d fair = absurd (omega arith)
+  arrives-same (b ∷ bs) narrow short filled says {c = c} both Run.whole fair = rw (sent-heard (c .stage) (b ∷ bs) narrow short filled) (hears-same i says both)
+  arrives-same (b ∷ bs) narrow short filled says {c = c} both Run.nothing fair = rw (heard-empty (c .stage)) (silence-same i both)
+  arrives-same (b ∷ bs) narrow short filled says {c = c} both (Run.other []) fair = rw (heard-empty (c .stage)) (silence-same i both)
+  arrives-same (b ∷ bs) narrow short filled says {c = c} both (Run.other (y ∷ ys)) fair = rw (unheard-noise (c .stage) y ys fair) (noise-same i both)
+
+-- ── What is read ──
+
+-- an answer is read as meant
+answer-read : (x : Answer) → replyRead (answerBytes x) ≡ readAs x
+answer-read nothing = empty-unrecognized
+answer-read idRequest = written-read .id-request-read
+answer-read acceptance = written-read .acceptance-read
+answer-read ack = written-read .ack-read
+answer-read nak = written-read .nak-read
+answer-read rs = written-read .rs-read
+answer-read hangUp = written-read .eot-read
+
+-- whole strings arrive
+hit-whole : (bytes : List ℕ) → hit Run.whole bytes ≡ bytes
+hit-whole [] = refl
+hit-whole (b ∷ bs) = refl
+
+-- where nothing arrives nothing is read
+lost-unread : (bytes : List ℕ) → replyRead (hit Run.nothing bytes) ≡ Unrecognized
+lost-unread [] = empty-unrecognized
+lost-unread (b ∷ bs) = empty-unrecognized
+
+-- nor is other bytes
+other-unread : (others bytes : List ℕ) → Replaced Unread (Run.other others) bytes → replyRead (hit (Run.other others) bytes) ≡ Unrecognized
+other-unread others [] fair = empty-unrecognized
+other-unread others (b ∷ bs) fair = fair
+
+-- the device reads what arrives of an answer as the model does
+returns-same : (x : Answer) (d : Damage) → Replaced Unread d (answerBytes x) → replyRead (hit d (answerBytes x)) ≡ readAs (returns (harmed d) x)
+returns-same x Run.whole fair = ap replyRead (hit-whole (answerBytes x)) ∙ answer-read x
+returns-same x Run.nothing fair = lost-unread (answerBytes x)
+returns-same x (Run.other []) fair = other-unread [] (answerBytes x) fair
+returns-same x (Run.other (b ∷ bs)) fair = other-unread (b ∷ bs) (answerBytes x) fair
+
+-- ── A transmission ──
+
+-- a run that is not refused
+module _ (i : Inputs) (l : Legal i) where
+  -- both ends are the model's
+  pub data SameEnds : Ends → World (List (List ℕ)) → Type 0 where
+    ends : {e : Ends} {d : Device} {s : Model.Step} {j : List (List ℕ)} → Same i (e .step) (e .verdicts) d → SameCentral i (e .central) s j → SameEnds e (world d s j)
+
+  -- the central's answer to a string, and what the device does with it
+  answered-same : (d : Damage) (e : Ends) (n : ℕ) (x : Reaction) (r : Model.Reply (List (List ℕ))) {v : Device} → Same i (e .step) (e .verdicts) v →
+      Replaced Unread d (answerBytes (x .answer)) → SameReply i x r →
+      let m = moves (i .retries) (i .job) (e .step) (replyRead (hit d (answerBytes (x .answer)))) in
+      SameEnds (record { step = m .next; verdicts = noted (m .given) (e .verdicts); central = x .next; transmissions = n })
+      (answered (model i) (limits i) (harmed d) v r)
+  unfolding answered
+  answered-same d e n x r dev fair (now, alike) =
+      let read : replyRead (hit d (answerBytes (x .answer))) ≡ readAs (returns (harmed d) (r .answer)) =
+      returns-same (x .answer) d fair ∙ ap (λ y. readAs (returns (harmed d) y)) alike in
+      ends (rw (← read) at (moves-same i (l .job) (returns (harmed d) (r .answer)) dev)) now
+
+  -- a string that says x
+  sent-same : (d : Damage × Damage) (e : Ends) (x : Call) {v : Device} {s : Model.Step} {j : List (List ℕ)} → (e .step ≡ Stopped → ⊥) →
+      Says i (stringText (i .job) (i .password) (e .step)) x → FairAt i d e → Same i (e .step) (e .verdicts) v → SameCentral i (e .central) s j →
+      SameEnds (exchange i d e) (sent (model i) (limits i) (harmsOf d) v s j (some x))
+  unfolding exchange responds follows sent
+  sent-same d e x moving says fair dev both =
+      let there = same-exists i (l .job) dev in
+      let narrow = string-seven (i .job) (i .password) (e .step) (l .job) there (l .plain) in
+      let fits = string-short (i .job) (i .password) (e .step) there (l .short) in
+      let filled = string-some (i .job) (i .password) (e .step) moving in
+      answered-same (d .1) e _ _ _ dev (fair .unread) (arrives-same i _ narrow fits filled says both (d .0) (fair .unheard))
+
+  -- a device that has stopped puts out no string: nothing moves
+  stopped-same : (d : Damage × Damage) (vs : List Verdict) (c : Central) (n : ℕ) {v : Device} {s : Model.Step} {j : List (List ℕ)} → Same i Stopped vs v → SameCentral i c s j →
+      SameEnds (exchange i d (record { step = Stopped; verdicts = vs; central = c; transmissions = n })) (world v s j)
+  unfolding exchange responds follows heard reacts moves
+  stopped-same d vs c n dev both = ends dev both
+
+  -- a step of the device, and what the model's device transmits
+  stepped-same : (d : Damage × Damage) {step : Step} {vs : List Verdict} (c : Central) (n : ℕ) {v : Device} {s : Model.Step} {j : List (List ℕ)} → Same i step vs v →
+      let e : Ends = record { step = step; verdicts = vs; central = c; transmissions = n } in
+      FairAt i d e → SameCentral i c s j → SameEnds (exchange i d e) (Model.exchange (model i) (limits i) (harmsOf d) (world v s j))
+  unfolding Model.exchange sent
+  stepped-same d c n same-opening fair both = sent-same d _ hello (λ e. absurd (false≢true cc)) says-hello fair same-opening both
+  stepped-same d c n same-logon fair both = sent-same d _ login (λ e. absurd (false≢true cc)) (says-login (l .short) (l .plain)) fair same-logon both
+  stepped-same d c n (same-sending {b} h x) fair both =
+      let (block, fits, right) = same-block i (l .job) h x in
+      sent-same d _ (blk b) (λ e. absurd (false≢true cc)) (rw block (says-block b fits right)) fair (same-sending h x) both
+  stepped-same d c n (same-closing e) fair both = sent-same d _ bye (λ e. absurd (false≢true cc)) says-bye fair (same-closing e) both
+  stepped-same d c n (same-stopped {vs} e) fair both = stopped-same d vs c n (same-stopped e) both
+
+  -- one transmission
+  pub exchange-same : (d : Damage × Damage) {e : Ends} {w : World (List (List ℕ))} → FairAt i d e → SameEnds e w → SameEnds (exchange i d e) (Model.exchange (model i) (limits i) (harmsOf d) w)
+  exchange-same d {e} fair (ends dev both) = stepped-same d (e .central) (e .transmissions) dev fair both
+
+  -- ── The run ──
+
+  -- so many transmissions
+  pub after-same : (n : ℕ) (ds : Damages) {e : Ends} {w : World (List (List ℕ))} → FairFor i n ds e → SameEnds e w →
+      SameEnds (after i n ds e) (Model.run (model i) (limits i) n (map harmsOf ds) w)
+  unfolding after FairFor Model.run
+  after-same zero ds fair alike = alike
+  after-same (suc n) [] fair alike = after-same n [] (fair .1) (exchange-same (Run.whole, Run.whole) (fair .0) alike)
+  after-same (suc n) (d ∷ ds) fair alike = after-same n ds (fair .1) (exchange-same d (fair .0) alike)

@@ -1,0 +1,63 @@
+-- Laws of the run itself: it rests once the device has stopped, it counts at most one transmission an exchange, and an empty list of damage is fair.
+use mathlib.Core.List.{List, [], _∷_, tail}
+use mathlib.Core.Path.{_≡_, refl, sym, subst}
+use Prim.Native.Nat.{ℕ, zero, suc, _+_, _≤_}
+use native.Mathlib.Nat.{add-zero}
+use native.Mathlib.Omega.{arith}
+use Rattle.central.specs.Hearing.{heard}
+use Rattle.central.specs.Reaction.{reacts}
+use Rattle.device.specs.Reaction.{moves}
+use Rattle.device.specs.declared.state.Step.{Step}
+use Rattle.device.specs.declared.state.Step.the-variants.{Stopped}
+use Rattle.call.specs.Demand.{Replaced, Unheard, Unread, FairFor}
+use Rattle.call.specs.Run.{Damage, whole, Damages, next, Inputs, Ends, string, answer, responds, follows, counted, exchange, after}
+
+-- ── Rest ──
+
+-- both ends with the device at a step
+abbrev standing : Ends → Step → Ends
+standing e step = record { step = step; verdicts = e .verdicts; central = e .central; transmissions = e .transmissions }
+
+-- a stopped device puts out no string
+stands : (i : Inputs) (d : Damage × Damage) (e : Ends) → exchange i d (standing e Stopped) ≡ standing e Stopped
+unfolding exchange responds follows heard reacts moves
+stands i d e = rw add-zero
+
+-- once the device has stopped nothing moves
+pub stopped-rests : (i : Inputs) (d : Damage × Damage) (e : Ends) → e .step ≡ Stopped → exchange i d e ≡ e
+stopped-rests i d e h = subst (λ step. exchange i d (standing e step) ≡ standing e step) (sym h) (stands i d e)
+
+-- however long the run goes on
+pub after-rests : (i : Inputs) (n : ℕ) (ds : Damages) (e : Ends) → e .step ≡ Stopped → after i n ds e ≡ e
+unfolding after
+after-rests i zero ds e h = refl
+after-rests i (suc n) ds e h = rw (stopped-rests i (next ds) e h) (after-rests i n (tail ds) e h)
+
+-- ── The number of transmissions ──
+
+-- a string counts as at most one
+counted-one : (bytes : List ℕ) → counted bytes ≤ 1
+counted-one [] = omega arith
+counted-one (b ∷ bs) = omega arith
+
+-- so many exchanges are at most so many transmissions
+pub after-counted : (i : Inputs) (n : ℕ) (ds : Damages) (e : Ends) → after i n ds e .transmissions ≤ e .transmissions + n
+unfolding after exchange
+after-counted i zero ds e = omega arith
+after-counted i (suc n) ds e = omega (arith, after-counted i n (tail ds) (exchange i (next ds) e), counted-one (string i e))
+
+-- ── No damage ──
+
+-- where nothing is replaced, nothing is asked
+whole-replaced : (P : List ℕ → Type 0) (bytes : List ℕ) → Replaced P whole bytes
+whole-replaced P [] = tt
+whole-replaced P (b ∷ bs) = tt
+
+-- an empty list of damage is fair
+pub clean-fair : (i : Inputs) (n : ℕ) (e : Ends) → FairFor i n [] e
+unfolding FairFor
+clean-fair i zero e = tt
+clean-fair i (suc n) e = (
+  record { unheard = whole-replaced (Unheard (e .central .stage)) (string i e); unread = whole-replaced Unread (answer i whole e) },
+  clean-fair i n (exchange i (whole, whole) e),
+)

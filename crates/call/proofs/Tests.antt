@@ -1,0 +1,53 @@
+-- Facts about `if`, and about the count of decided verdicts.
+use mathlib.Core.Bool.{Bool, true, false, _&&_, false≢true}
+use mathlib.Core.List.{List, [], _∷_, _++_}
+use mathlib.Core.Path.{_≡_, refl}
+use lib.ListN.{replicate}
+use native.Mathlib.Omega.{arith}
+use Prim.Native.Nat.{ℕ, zero, suc, _+_}
+use Rattle.line.specs.Test.{if_then_else_}
+use Rattle.device.specs.declared.state.Verdict.{Verdict}
+use Rattle.device.specs.declared.state.Verdict.the-variants.{Unsent}
+use Rattle.call.proofs.Model.{Device, World, world}
+use Rattle.call.specs.Demand.{decides, decided}
+
+-- the device of a world
+abbrev pub deviceOf : {J : Type 0} → World J → Device
+deviceOf (world d s j) = d
+
+module _ {A : Type 0} where
+  -- to show P of an `if`, show it of both branches, each from what its test says
+  pub branch : (P : A → Type 0) (c : Bool) {u v : A} → (c ≡ true → P u) → (c ≡ false → P v) → P (if c then u else v)
+  branch P true h k = h refl
+  branch P false h k = k refl
+
+  -- two `if`s, whose second test holds wherever the first does
+  pub looser : (P : A → A → Type 0) (p q q′ : Bool) {u v : A} → (q ≡ true → q′ ≡ true) → ((z : A) → P z z) → P v u →
+      P (if p && q then u else v) (if p && q′ then u else v)
+  looser P false q q′ {v = v} h r k = r v
+  looser P true true true {u = u} h r k = r u
+  looser P true true false h r k = absurd (false≢true (h refl))
+  looser P true false true h r k = k
+  looser P true false false {v = v} h r k = r v
+
+-- two `if`s on one test
+pub branches : {A B : Type 0} (P : A → B → Type 0) (c : Bool) {u v : A} {u′ v′ : B} → P u u′ → P v v′ → P (if c then u else v) (if c then u′ else v′)
+branches P true h k = h
+branches P false h k = k
+
+-- the decisions of two lists joined
+pub decided-append : (us vs : List Verdict) → decided (us ++ vs) ≡ decided us + decided vs
+unfolding decided
+decided-append [] vs = omega arith
+decided-append (u ∷ us) vs = go (decides u) (decided-append us vs)
+  where
+    go : (c : Bool) → decided (us ++ vs) ≡ decided us + decided vs →
+        (if c then suc (decided (us ++ vs)) else decided (us ++ vs)) ≡ (if c then suc (decided us) else decided us) + decided vs
+    go true e = omega arith
+    go false e = e
+
+-- what is all unsent decides nothing
+pub decided-unsent : (n : ℕ) → decided (replicate n Unsent) ≡ 0
+unfolding decided
+decided-unsent zero = refl
+decided-unsent (suc n) = decided-unsent n

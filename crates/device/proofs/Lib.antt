@@ -1,0 +1,10 @@
+pub mod BoundLaws
+pub mod DecodedLaws
+pub mod DeviceLaws
+pub mod JobLaws
+pub mod MeaningLaws
+pub mod PlaceLaws
+pub mod RangeLaws
+pub mod StepLaws
+pub mod StringLaws
+pub mod WritingLaws

@@ -1,0 +1,3 @@
+pub mod Reaction
+pub mod Step
+pub mod Bound

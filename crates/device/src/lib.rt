@@ -1,0 +1,15 @@
+// The entry device: what it sends, and what it makes of each reply.
+mod range;
+mod reaction;
+pub mod state;
+pub mod step;
+mod string;
+
+pub use state::Given;
+pub use state::Place;
+pub use state::Report;
+pub use state::Settings;
+pub use state::State;
+pub use state::Step;
+pub use state::Stepped;
+pub use state::Verdict;

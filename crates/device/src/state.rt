@@ -1,0 +1,65 @@
+// The entry device's settings, its saved state, and what a step answers.
+use line::Password;
+use line::Written;
+use reply::Reply;
+
+pub struct Settings {
+    pub password: Password,
+    // How often a string is sent again after NAK, 0 to 9.
+    pub retries: usize,
+}
+
+// Which block of which transaction is waited for, both from 0, and how often the string was sent.
+// Outside sending, transaction and block are 0.
+pub struct Place {
+    pub transaction: usize,
+    pub block: usize,
+    pub attempts: usize,
+}
+
+// The step that the device waits in for a reply.
+pub enum Step {
+    Opening(Place),
+    Logon(Place),
+    Sending(Place),
+    Closing(Place),
+    Stopped,
+}
+
+pub struct State {
+    pub step: Step,
+}
+
+// What became of a transaction.
+pub enum Verdict {
+    // 1: stored by the central (document 01's taken).
+    Accepted,
+    // 2: refused by the central.
+    Rejected,
+    // 3: no reply that could be read (unread).
+    Unconfirmed,
+    // 4: not stored, and to be sent in another call (held back).
+    Deferred,
+    // 5: never sent (unsent).
+    Unsent,
+}
+
+// The verdict that a step gives, and to which transaction.
+pub enum Given {
+    Verdict(usize, Verdict),
+    Nothing,
+}
+
+// The reply to the close, once it came.
+pub enum Report {
+    Close(Reply),
+    Nothing,
+}
+
+// The bytes put out, or the refusal; the state behind the step; what it gives and reports.
+pub struct Stepped {
+    pub outcome: Written,
+    pub state: State,
+    pub given: Given,
+    pub report: Report,
+}
