@@ -26,9 +26,6 @@ pub enum Answer {
     HangUp,
 }
 
-// The most bytes of an answer.
-pub const LONGEST: usize = 7;
-
 // The bytes of the answer, with parity.
 pub(crate) fn put_answer(answer: Answer, out: &mut [u8]) -> Written
     requires { ⌜ 7 ≤ length (now out) ⌝ }

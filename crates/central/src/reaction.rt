@@ -128,6 +128,7 @@ fn in_block(
             ending,
         ),
         Reading::Refused(refusal) => {
+            // 6: right in its frame, and wrong in its information.
             if number(refusal) == 6 {
                 return enter(state, Stage::Block, Answer::Rs);
             }

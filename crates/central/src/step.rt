@@ -1,6 +1,5 @@
 // One step of the central: a string off the line, its answer and the state behind it.
 use crate::answer::Answer;
-use crate::answer::LONGEST as ANSWER;
 use crate::answer::put_answer;
 use crate::range::in_range;
 use crate::reaction::Reacted;
@@ -21,6 +20,9 @@ ghost use Rattle.central.specs.Hearing.{heard};
 ghost use Rattle.central.specs.Inner.{InRange, Readable, Stores, transactionsIn};
 ghost use Rattle.central.specs.Reaction.{reacts};
 ghost use Rattle.central.specs.Step.{Steps, centralOf, hungUp, rulesOf, startOf, stepped};
+
+// The most bytes of an answer.
+pub const ANSWER: usize = 7;
 
 // The longest string that any stage recognizes.
 pub const STRING: usize = 256;

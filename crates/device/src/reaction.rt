@@ -164,7 +164,7 @@ fn closes(retries: usize, place: Place, reply: Reply) -> Move
     }
 }
 
-// After NAK: fewer attempts so far than the retry limit and one.
+// The string may be sent once more: in all, the retry limit and one.
 fn may_repeat(retries: usize, place: Place) -> bool
     ensures { λ r. ⌜ r ≡ ltb (place .attempts) (retries + 1) ⌝ }
 {

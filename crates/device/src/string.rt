@@ -73,6 +73,7 @@ fn put_segment(job: &[u8], place: Place, out: &mut [u8]) -> usize
 {
     let info = oldest(job, place.transaction);
     let mut text = [0u8; ROOM];
+    // Never refused: a transaction of the job is legal, and a block fits.
     let Written::Count(n) = write_segment(info, place.block, &mut text) else {
         return 0;
     };
