@@ -1,0 +1,55 @@
+-- `word_start` is safe: it stays within the call.
+use Prim.Native.Nat.{_≤_, _-_}
+use borrow.Author.Needs.{needs}
+use lib.ListN.{length}
+use Rattle.vectors.proofs.argument.word_start.Statement.{statement}
+use Rattle.vectors.proofs.argument.word_start.Tie as tie
+
+abbrev Inv-loop : tie.InvT-loop
+Inv-loop call index left₀ i₀ left i = i ≤ length call
+
+abbrev μ-loop : tie.MeasureT-loop
+μ-loop call index left₀ i₀ left i = length call - i
+
+loop-holds : tie.Need-loop-holds Inv-loop μ-loop
+loop-holds c = search needs
+
+returns : tie.Need-returns Inv-loop μ-loop
+returns c = search needs
+
+shared-slice-read-spaces : tie.Need-shared-slice-read-spaces Inv-loop μ-loop
+shared-slice-read-spaces c = search needs
+
+spaces-requires : tie.Need-spaces-requires Inv-loop μ-loop
+spaces-requires c κs = search needs
+
+sub-left : tie.Need-sub-left Inv-loop μ-loop
+sub-left c = search needs
+
+add-i : tie.Need-add-i Inv-loop μ-loop
+add-i c = search needs
+
+loop-less : tie.Need-loop-less Inv-loop μ-loop
+loop-less c = search needs
+
+loop-again : tie.Need-loop-again Inv-loop μ-loop
+loop-again c = search needs
+
+returns-2 : tie.Need-returns-2 Inv-loop μ-loop
+returns-2 c = search needs
+
+pub word-start-spec : {M : Type 1} → statement M
+word-start-spec =
+    tie.close
+    (tie.spec
+    Inv-loop
+    μ-loop
+    loop-holds
+    returns
+    shared-slice-read-spaces
+    spaces-requires
+    sub-left
+    add-i
+    loop-less
+    loop-again
+    returns-2)
