@@ -4,10 +4,8 @@ use mathlib.Core.List.{List}
 use mathlib.Core.Logic.{_⊎_, inl, inr}
 use mathlib.Core.Path.{_≡_, refl}
 use Prim.Native.Nat.{ℕ, _+_, _≤_}
-use native.Mathlib.Omega.{arith}
-use borrow.Author.Tests.{ltb-true, eqb-true, lt-ltb, le-leb, ltb-false, eqb-false, not-false}
-use lib.Dec.{leb, ltb, eqb}
-use lib.ListN.{length}
+use borrow.Author.Tests.{eqb-true, ltb-false, not-false}
+use lib.Dec.{ltb, eqb}
 use Rattle.line.specs.Answer.{done}
 use Rattle.line.proofs.OutcomeLaws.{then-done, map-done, passed, choice}
 use Rattle.journal.specs.Encoding.{allLegal}
@@ -16,8 +14,8 @@ use Rattle.reply.specs.Reading.{replyRead}
 use Rattle.reply.specs.declared.Meaning.the-variants.{IdRequest, Acceptance, Ack, Nak, Rs, Eot}
 use Rattle.reply.specs.declared.Reply.{Reply}
 use Rattle.reply.specs.declared.Reply.the-variants.{Unrecognized}
-use Rattle.device.specs.Reaction.{again, blocksIn, gives, moves, onwards, sends, Move, _says_}
-use Rattle.device.specs.Step.{attemptsInRange, exists, Sent, sent, settingsInRange, started, stepInRange, stepped}
+use Rattle.device.specs.Reaction.{blocksIn, gives, moves, sends, Move, _says_}
+use Rattle.device.specs.Step.{exists, Sent, sent, settingsInRange, started, stepInRange, stepped}
 use Rattle.device.specs.declared.state.Given.the-variants as Giving
 use Rattle.device.specs.declared.state.Place.{Place}
 use Rattle.device.specs.declared.state.Settings.{Settings}
@@ -26,69 +24,21 @@ use Rattle.device.specs.declared.state.Step.{Step}
 use Rattle.device.specs.declared.state.Step.the-variants.{Opening, Logon, Sending, Closing, Stopped}
 use Rattle.device.specs.declared.state.Verdict.{Verdict}
 use Rattle.device.specs.declared.state.Verdict.the-variants.{Accepted, Rejected, Unconfirmed, Deferred, Unsent}
-use Rattle.device.proofs.JobLaws.{blocks-some, exists-parts}
 use Rattle.journal.proofs.EncodingLaws.{decode-legal}
+use Rattle.device.proofs.PlaceLaws.{moves-exist}
+use Rattle.device.proofs.RangeLaws.{moves-in-range}
 
 -- ── States in range ──
-
--- once more, where the attempts allow it
-again-in-range : (most : ℕ) (p : Place) → ltb (p .attempts) most ≡ true → attemptsInRange most (again p) ≡ true
-again-in-range most p h = rw (le-leb 1 (p .attempts + 1) (omega arith), le-leb (p .attempts + 1) most (omega (arith, ltb-true)))
 
 -- a step in range, whose place exists in the job
 pub record Within (retries : ℕ) (ts : List (List ℕ)) (step : Step) : Type 0 where
   pub range : stepInRange retries step ≡ true
   pub there : exists ts step ≡ true
 
--- the steps behind a reply, with some retry limit, in a job of legal transactions
-module _ (retries : ℕ) (ts : List (List ℕ)) (good : allLegal ts ≡ true) where
-  -- the first attempt is in range
-  one-in-range : leb 1 (retries + 1) ≡ true
-  one-in-range = le-leb 1 (retries + 1) (omega arith)
-
-  -- the next transaction, or the close, is in range
-  onwards-within : (t : ℕ) → Within retries ts (onwards ts t)
-  onwards-within t =
-      choice (Within retries ts) (ltb t (length ts))
-      (λ h. record { range = rw one-in-range; there = rw (h, lt-ltb 0 (blocksIn ts t) (blocks-some ts t good (ltb-true _ _ h))) })
-      (λ _. record { range = rw one-in-range; there = refl })
-
-  -- a move whose step is in range
-  abbrev Next : Move → Type 0
-  Next m = Within retries ts (m .next)
-
-  -- so is the end
-  stops : Within retries ts Stopped
-  stops = record { range = refl; there = refl }
-
-  -- whatever is read, the step behind it is in range
-  pub moves-within : (step : Step) (r : Reply) → Within retries ts step → Within retries ts (moves retries ts step r .next)
-  unfolding moves
-  moves-within (Opening p) r w =
-      choice Next (r says IdRequest) (λ _. record { range = rw one-in-range; there = refl }) (λ _.
-      choice Next (ltb (p .attempts) 3) (λ h. record { range = again-in-range 3 p h; there = w .there }) (λ _. stops))
-  moves-within (Logon p) r w =
-      choice Next (r says Acceptance) (λ _. onwards-within 0) (λ _.
-      choice Next ((r says Nak || r says IdRequest) && ltb (p .attempts) (retries + 1))
-      (λ h. record { range = again-in-range (retries + 1) p (and-eq-true-iff (r says Nak || r says IdRequest) _ .0 h .1); there = w .there })
-      (λ _. stops))
-  moves-within (Sending p) r w =
-      let (t, b) = exists-parts ts p (w .there) in
-      choice Next (r says Ack)
-      (λ _. choice Next (eqb (p .block + 1) (blocksIn ts (p .transaction))) (λ _. onwards-within (p .transaction + 1))
-      (λ n. record {
-        range = rw one-in-range;
-        there = rw (lt-ltb (p .transaction) (length ts) t, lt-ltb (p .block + 1) (blocksIn ts (p .transaction)) (omega (arith, eqb-false (p .block + 1) (blocksIn ts (p .transaction)) n)));
-      }))
-      (λ _. choice Next (r says Nak)
-      (λ _. choice Next (ltb (p .attempts) (retries + 1)) (λ h. record { range = again-in-range (retries + 1) p h; there = w .there }) (λ _. stops))
-      (λ _. choice Next (r says Rs) (λ _. onwards-within (p .transaction + 1))
-      (λ _. choice Next (r says Eot) (λ _. stops) (λ _. stops))))
-  moves-within (Closing p) r w =
-      choice Next (r says Nak && ltb (p .attempts) (retries + 1))
-      (λ h. record { range = again-in-range (retries + 1) p (and-eq-true-iff (r says Nak) _ .0 h .1); there = w .there })
-      (λ _. stops)
-  moves-within Stopped r w = stops
+-- whatever is read, the step behind it is in range, in a job of legal transactions
+pub moves-within : (retries : ℕ) (ts : List (List ℕ)) → allLegal ts ≡ true → (step : Step) (r : Reply) → Within retries ts step → Within retries ts (moves retries ts step r .next)
+moves-within retries ts good step r w =
+    record { range = moves-in-range retries ts step r; there = moves-exist ts good retries step r (w .there) }
 
 -- a step that is not refused leaves a state in range
 pub step-in-range : (s : State) (settings : Settings) (job reply : List ℕ) (room : ℕ) (x : Sent) → stepped s settings job reply room ≡ done x →

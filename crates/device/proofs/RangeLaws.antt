@@ -14,7 +14,7 @@ use Rattle.device.specs.Step.{attemptsInRange, stepInRange}
 use Rattle.device.specs.declared.state.Place.{Place}
 use Rattle.device.specs.declared.state.Step.{Step}
 use Rattle.device.specs.declared.state.Step.the-variants.{Opening, Logon, Sending, Closing, Stopped}
-use Rattle.device.proofs.PlaceLaws.{either}
+use Rattle.line.proofs.OutcomeLaws.{choice}
 
 -- ── General ──
 
@@ -47,25 +47,25 @@ module _ (retries : ℕ) (job : List (List ℕ)) where
   onwards-in-range : (t : ℕ) → stepInRange retries (onwards job t) ≡ true
   onwards-in-range t =
       let first = le-leb 1 (retries + 1) (omega arith) in
-      either (λ s. stepInRange retries s ≡ true) (ltb t (length job)) (λ e. first) (λ e. first)
+      choice (λ s. stepInRange retries s ≡ true) (ltb t (length job)) (λ e. first) (λ e. first)
 
   -- a move leads to a step whose attempts are in range
   pub moves-in-range : (step : Step) (r : Reply) → stepInRange retries (moves retries job step r .next) ≡ true
   unfolding moves
   moves-in-range (Opening p) r =
-      either Ranged (r says IdRequest) (λ e. le-leb 1 (retries + 1) (omega arith))
-      (λ e. either Ranged (ltb (p .attempts) 3) (again-in-range 3 p) (λ e. refl))
+      choice Ranged (r says IdRequest) (λ e. le-leb 1 (retries + 1) (omega arith))
+      (λ e. choice Ranged (ltb (p .attempts) 3) (again-in-range 3 p) (λ e. refl))
   moves-in-range (Logon p) r =
-      either Ranged (r says Acceptance) (λ e. onwards-in-range 0)
-      (λ e. either Ranged ((r says Nak || r says IdRequest) && ltb (p .attempts) (retries + 1))
+      choice Ranged (r says Acceptance) (λ e. onwards-in-range 0)
+      (λ e. choice Ranged ((r says Nak || r says IdRequest) && ltb (p .attempts) (retries + 1))
       (λ e. again-in-range (retries + 1) p (and-eq-true-iff (r says Nak || r says IdRequest) (ltb (p .attempts) (retries + 1)) .0 e .1)) (λ e. refl))
   moves-in-range (Sending p) r =
-      either Ranged (r says Ack)
-      (λ e. either Ranged (eqb (p .block + 1) (blocksIn job (p .transaction))) (λ e. onwards-in-range (p .transaction + 1)) (λ e. le-leb 1 (retries + 1) (omega arith)))
-      (λ e. either Ranged (r says Nak) (λ e. either Ranged (ltb (p .attempts) (retries + 1)) (again-in-range (retries + 1) p) (λ e. refl))
-      (λ e. either Ranged (r says Rs) (λ e. onwards-in-range (p .transaction + 1))
-      (λ e. either Ranged (r says Eot) (λ e. refl) (λ e. refl))))
+      choice Ranged (r says Ack)
+      (λ e. choice Ranged (eqb (p .block + 1) (blocksIn job (p .transaction))) (λ e. onwards-in-range (p .transaction + 1)) (λ e. le-leb 1 (retries + 1) (omega arith)))
+      (λ e. choice Ranged (r says Nak) (λ e. choice Ranged (ltb (p .attempts) (retries + 1)) (again-in-range (retries + 1) p) (λ e. refl))
+      (λ e. choice Ranged (r says Rs) (λ e. onwards-in-range (p .transaction + 1))
+      (λ e. choice Ranged (r says Eot) (λ e. refl) (λ e. refl))))
   moves-in-range (Closing p) r =
-      either Ranged (r says Nak && ltb (p .attempts) (retries + 1))
+      choice Ranged (r says Nak && ltb (p .attempts) (retries + 1))
       (λ e. again-in-range (retries + 1) p (and-eq-true-iff (r says Nak) (ltb (p .attempts) (retries + 1)) .0 e .1)) (λ e. refl)
   moves-in-range Stopped r = refl

@@ -1,10 +1,11 @@
 -- `logs_on` meets its contract: by what the reply says, and by nothing where it is not recognized.
 use mathlib.Core.List.{[], _∷_}
-use mathlib.Core.Path.{sym, _∙_}
+use mathlib.Core.Path.{sym, ap, _∙_}
 use Prim.Native.Nat.{_+_}
 use native.Mathlib.Omega.{arith}
 use borrow.Author.Tests.{ltb-true}
 use Rattle.reply.specs.declared.Meaning.the-variants.{IdRequest, Acceptance, Ack, Nak, Rs, Eot}
+use Rattle.device.specs.Reaction.{goes}
 use Rattle.device.proofs.MeaningLaws.{says-other, says-either}
 use borrow.Author.Needs.{needs}
 use Rattle.device.proofs.reaction.logs_on.Statement.{statement}
@@ -51,7 +52,7 @@ goes-requires-5 c κs = search needs
 returns-2 : tie.Need-returns-2
 returns-2 c = λ job e.
     let d = c .before .before in
-    rw (d .before .before .before .reply .given .1, d .enum-told2 .given .1, ← c .before .onwards .ensures job e) (c .goes2 .ensures)
+    rw (d .before .before .before .reply .given .1, d .enum-told2 .given .1) (c .goes2 .ensures ∙ ap goes (c .before .onwards .ensures job e))
 
 returns-3 : tie.Need-returns-3
 returns-3 c = λ job e.

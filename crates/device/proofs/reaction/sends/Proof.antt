@@ -1,6 +1,9 @@
 -- `sends` meets its contract: by what the reply says, and by nothing where it is not recognized.
 use mathlib.Core.List.{[], _∷_}
+use mathlib.Core.Path.{ap, _∙_}
 use Rattle.reply.specs.declared.Meaning.the-variants.{IdRequest, Acceptance, Ack, Nak, Rs, Eot}
+use Rattle.device.specs.Reaction.{gives}
+use Rattle.device.specs.declared.state.Verdict.the-variants.{Rejected}
 use Rattle.device.proofs.MeaningLaws.{says-other}
 use borrow.Author.Needs.{needs}
 use Rattle.device.proofs.reaction.sends.Statement.{statement}
@@ -64,7 +67,7 @@ returns-3 c = λ job e b.
 returns-4 : tie.Need-returns-4
 returns-4 c = λ job e b.
     let d = c .before .before in
-    rw (d .before .before .before .reply .given .1, d .enum-told4 .given .1, ← c .before .onwards .ensures job e) (c .gives2 .ensures)
+    rw (d .before .before .before .reply .given .1, d .enum-told4 .given .1) (c .gives2 .ensures ∙ ap (gives _ Rejected) (c .before .onwards .ensures job e))
 
 returns-5 : tie.Need-returns-5
 returns-5 c = λ job e b.

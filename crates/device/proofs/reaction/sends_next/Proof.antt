@@ -1,8 +1,10 @@
 -- `sends_next` meets its contract: the block ended its transaction where no other was left.
+use mathlib.Core.Path.{ap, _∙_}
 use Prim.Native.Nat.{_+_}
 use native.Mathlib.Omega.{arith}
 use borrow.Author.Tests.{eq-eqb, ne-eqb}
-use Rattle.device.specs.Reaction.{blocksIn}
+use Rattle.device.specs.Reaction.{blocksIn, gives}
+use Rattle.device.specs.declared.state.Verdict.the-variants.{Accepted}
 use borrow.Author.Needs.{needs}
 use Rattle.device.proofs.reaction.sends_next.Statement.{statement}
 use Rattle.device.proofs.reaction.sends_next.Tie as tie
@@ -23,7 +25,7 @@ returns : tie.Need-returns
 returns c = λ job e b.
     let p = c .before .before .before .before .args .place in
     let last = eq-eqb (p .block + 1) (blocksIn job (p .transaction)) (omega arith) in
-    rw (last, ← c .before .onwards .ensures job e) (c .gives .ensures)
+    rw last (c .gives .ensures ∙ ap (gives _ Accepted) (c .before .onwards .ensures job e))
 
 add-t10 : tie.Need-add-t10
 add-t10 c = search needs
