@@ -446,6 +446,218 @@ def journal(rng):
     a(encode([page] * 63), page), a(encode([page] * 64), page), a(encode([page] * 64), b"A")
 
 
+# ── the central ──
+LETTERS = b"0123456789ABCDEFGHIJKLMNOPQRSTUVWXYZabcdefghijklmnopqrstuvwxyz"
+
+
+class Central:
+    """The central's steps over strings off the line, from Idle; a refusal leaves it as it is."""
+
+    def __init__(self, password, longest, retries, pagers, journal):
+        self.password, self.longest, self.retries, self.pagers, self.journal = password, longest, retries, pagers, journal
+        self.stage, self.failures, self.pending = "idle", 0, b""
+
+    def step(self, line):
+        if len(self.password) > 6 or any(x not in LETTERS for x in self.password) or not 3 <= self.longest <= 2000 or self.retries > 9:
+            raise Refused(9)
+        if len(self.pagers) > 1000 or any(x >= 10 ** 8 for x in self.pagers):
+            raise Refused(9)
+        stored = decode(self.journal)
+        return bytes(map(with_parity, self.answer(line, stored)))
+
+    def fail(self):
+        if self.failures == self.retries:
+            self.stage, self.failures, self.pending = "closed", 0, b""
+            return b"\r\x1b\x04\r"
+        self.failures += 1
+        return b"\r\x15\r"
+
+    def answer(self, line, stored):
+        if not line or self.stage == "closed":
+            return b""
+        even = all(bin(x).count("1") % 2 == 0 for x in line)
+        text = bytes(x & 0x7F for x in line) if even else None
+        if self.stage == "idle":
+            if text == b"\r":
+                self.stage = "logon"
+                return b"ID=\r"
+            return b""
+        if self.stage == "logon":
+            if text == b"\r":
+                return b"ID=\r"
+            if text == b"\x1bPG1" + self.password + b"\r":
+                self.stage, self.failures = "block", 0
+                return b"\r\x06\r\x1b[p\r"
+            return self.fail()
+        if text == b"\x04\r":
+            self.stage, self.failures, self.pending = "closed", 0, b""
+            return b"\r\x1b\x04\r"
+        try:
+            info, e = read(text) if text is not None else read(b"")
+        except Refused as r:
+            if str(r) != "6":
+                return self.fail()
+            info, e = None, None
+        self.failures = 0
+        whole = None if info is None else self.pending + info
+        self.pending = b""
+        if whole is None or len(whole) > self.longest:
+            return b"\r\x1e\r"
+        if e != ETX:
+            self.pending = whole
+            return b"\r\x06\r"
+        fields = whole[:-1].split(b"\r")
+        first = fields[0]
+        if len(fields) != 2 or not 1 <= len(first) <= 8 or any(x not in b"0123456789" for x in first) or int(first) not in self.pagers:
+            return b"\r\x1e\r"
+        if len(stored) + 1 > 64 or len(self.journal) - 4 + len(whole) + 2 > 32000:
+            return b"\r\x1e\r"
+        self.journal = encode(stored + [whole])
+        return b"\r\x06\r"
+
+
+def converse(central, lines):
+    out = []
+    for line in lines:
+        try:
+            out.append(plain(central.step(line)))
+        except Refused as r:
+            out.append("refused %s" % r)
+    return "%s, %s %d %d %s" % (" ".join(out), central.stage, central.failures, len(central.pending), digest(central.journal))
+
+
+def d(password, longest, retries, pagers, journal, *texts):
+    """A conversation with the central; texts get parity, lines given as bytes in a list do not."""
+    lines = [x[0] if isinstance(x, list) else bytes(map(with_parity, x)) for x in texts]
+    numbers = b"".join(x.to_bytes(4, "big") for x in pagers)
+    call("d", hexed(password), number(longest), number(retries), hexed(numbers), hexed(journal), *[hexed(x) for x in lines],
+         answer=lambda: converse(Central(password, longest, retries, pagers, journal), lines))
+
+
+def central(rng):
+    empty, log = encode([]), (b"\r", b"\x1bPG1\r")
+    page = block(b"123\rABC\r", ETX)
+    d(b"", 2000, 3, [123], empty, *log, page, b"\x04\r", b"\r")
+    d(b"abc123", 2000, 3, [123], empty, b"\r", b"\x1bPG1abc123\r", page), d(b"abc123", 2000, 0, [123], empty, b"\r", b"\x1bPG1abc12\r", b"\r")
+    d(b"abc", 2000, 2, [123], empty, b"\r", b"\x1bPG1\r", b"\x1bPG1ab\r", b"\r", b"\x1bPG1abcd\r", b"\r"), d(b"abc", 2000, 9, [], empty, b"\r", b"\x1bPG2abc\r", b"\x1bPG1abc", b"PG1abc\r", b"\x1bPG1abc\r\r", b"\x1bPG1abc\r")
+    d(b"", 2000, 1, [123], empty, b"X", b"\x04\r", page, b"", b"\r", b"", b"\r", b"\x1bPG1\r", b"", page, b"")
+    for info in (b"123\r\r", b"0000123\rA\r", b"00000123\rA\r", b"000000123\rA\r", b"124\rA\r", b"\rA\r", b"12a\rA\r", b"123\r", b"123\rA\rB\r", b" 123\rA\r", b"123 \rA\r", b"\r", b"\r\r"):
+        d(b"", 2000, 3, [123, 99999999, 0], empty, *log, block(info, ETX), page)
+    for wrong in (block(b"", ETX), block(b"A", ETX), block(b"A\r", US), block(b"A\x00\r", ETX), block(b"\x7f\r", ETB)):
+        d(b"", 2000, 3, [123], empty, *log, block(b"123\rA", US), wrong, block(b"\r", ETX), page)
+    bad = page[:-2] + b"0\r"
+    for n in range(4):
+        d(b"", 2000, n, [123], empty, *log, *([bad] * (n + 1)), page), d(b"", 2000, n, [123], empty, *log, *([bad] * n), page, *([bad] * n), page), d(b"", 2000, n, [123], empty, b"\r", *([b"?"] * n), b"\r", b"?", b"\r")
+    flip = bytearray(map(with_parity, page)); flip[0] ^= 0x80
+    d(b"", 2000, 3, [123], empty, *log, [bytes(flip)], page, [b"\x8d\x8d"], [b"\x0d"])
+    long = b"123\r" + b"A" * 1995 + b"\r"
+    for most in (3, 4, 249, 250, 251, 1999, 2000):
+        d(b"", most, 3, [123, 1], empty, *log, *[block(*x) for x in cut(long)]), d(b"", most, 3, [123, 1], empty, *log, block(b"1\r\r", ETX), block(b"1\rA\r", ETX))
+    full = encode([b"123\rABC\r"] * 63)
+    d(b"", 2000, 3, [123], full, *log, page, page), d(b"", 2000, 3, [123], encode([b"A" * 1997 + b"\r"] * 15 + [b"A" * 1980 + b"\r"]), *log, block(b"123\rABCDEFGHI\r", ETX), block(b"123\rABCDEFGH\r", ETX), block(b"123\r\r", ETX))
+    d(b"abcdefg", 2000, 3, [], empty, b"\r"), d(b"a b", 2000, 3, [], empty, b"\r"), d(b"", 2, 3, [], empty, b"\r"), d(b"", 2001, 3, [], empty, b"\r"), d(b"", 3, 10, [], empty, b"\r"), d(b"", 3, 9, [10 ** 8], empty, b"\r"), d(b"", 3, 9, [5], empty[:3], b"\r")
+    for _ in range(150):
+        lines = [b"\r", b"\x1bPG1\r"]
+        for _ in range(rng.randint(1, 8)):
+            lines.append(rng.choice((page, bad, b"", b"\x04\r", b"\r", block(b"123\rA", US), block(b"BC\r", ETX), block(b"7\r", ETB), block(b"\r", ETX), block(b"", US), [bytes(flip)])))
+        d(b"", rng.choice((3, 9, 2000)), rng.randint(0, 3), [123, 7], empty, *lines)
+
+
+# ── the entry device ──
+class Device:
+    """The device's steps over replies off the line, from Opening."""
+
+    def __init__(self, password, retries, job):
+        self.password, self.retries = password, retries
+        if len(password) > 6 or any(x not in LETTERS for x in password) or retries > 9:
+            raise Refused(9)
+        self.job = decode(job)
+        self.step, self.place, self.attempts = "opening", (0, 0), 1
+
+    def string(self):
+        if self.step == "sending":
+            text = block(*cut(self.job[self.place[0]])[self.place[1]])
+        else:
+            text = {"opening": b"\r", "logon": b"\x1bPG1" + self.password + b"\r", "closing": b"\x04\r", "stopped": b""}[self.step]
+        return bytes(map(with_parity, text))
+
+    def to(self, step, place=(0, 0)):
+        self.step, self.place, self.attempts = step, place, 1
+
+    def onwards(self, t):
+        self.to("sending", (t, 0)) if t < len(self.job) else self.to("closing")
+
+    def take(self, line):
+        """The verdict given, as `transaction=number`, or the reply to the close, or `-`."""
+        said = meaning(line)
+        last = self.attempts > self.retries
+        if self.step == "opening":
+            if said == "id request":
+                self.to("logon")
+            elif self.attempts < 3:
+                self.attempts += 1
+            else:
+                self.to("stopped")
+        elif self.step == "logon":
+            if said == "acceptance":
+                self.onwards(0)
+            elif said in ("nak", "id request") and not last:
+                self.attempts += 1
+            else:
+                self.to("stopped")
+        elif self.step == "closing":
+            if said == "nak" and not last:
+                self.attempts += 1
+            else:
+                self.to("stopped")
+                return "closed " + said
+        elif self.step == "sending":
+            t, b = self.place
+            if said == "ack":
+                if b + 1 < count_blocks(len(self.job[t])):
+                    self.to("sending", (t, b + 1))
+                else:
+                    self.onwards(t + 1)
+                    return "%d=1" % t
+            elif said == "rs":
+                self.onwards(t + 1)
+                return "%d=2" % t
+            elif said == "nak" and not last:
+                self.attempts += 1
+            else:
+                self.to("stopped")
+                return "%d=%d" % (t, 4 if said in ("nak", "eot") else 3)
+        return "-"
+
+
+def play(password, retries, job, lines):
+    device = Device(password, retries, job)
+    out = [plain(device.string())]
+    for line in lines:
+        given = device.take(line)
+        out.append("%s %s" % (given, plain(device.string())))
+    return ", ".join(out)
+
+
+def e(password, retries, job, *texts):
+    """Replies played to the device from its start; texts get parity, lines given as bytes in a list do not."""
+    lines = [x[0] if isinstance(x, list) else bytes(map(with_parity, x)) for x in texts]
+    call("e", hexed(password), number(retries), hexed(job), *[hexed(x) for x in lines], answer=lambda: play(password, retries, job, lines))
+
+
+def device(rng):
+    says = (b"ID=\r", b"\r\x06\r\x1b[p\r", b"\r\x06\r", b"\r\x15\r", b"\r\x1e\r", b"\r\x1b\x04\r", b"", b"?", [b"\x06\x8d\x8d"], [b"\x8d\x86\x8d"])
+    up = (b"ID=\r", b"\r\x06\r\x1b[p\r")
+    job = encode([b"123\rABC\r", b"9\rX\r", b"7\r" + b"A" * 600 + b"\r"])
+    for x in says:
+        e(b"abc1", 0, job, x, x, x, x), e(b"", 1, job, b"ID=\r", x, x, x), e(b"", 2, job, *up, x, x, x, x), e(b"", 1, job, *up, b"\r\x06\r", x, x, x)
+        e(b"", 1, job, *up, b"\r\x06\r", b"\r\x1e\r", b"\r\x06\r", x, b"\r\x06\r", b"\r\x06\r", x, x), e(b"", 1, encode([]), *up, x, x, x), e(b"", 0, encode([b"1\r\r"]), *up, b"\r\x06\r", x, x)
+    e(b"", 9, job, *([b"\r\x15\r"] * 3)), e(b"", 9, job, b"ID=\r", *([b"\r\x15\r"] * 12)), e(b"", 9, job, *up, *([b"\r\x15\r"] * 12)), e(b"", 9, encode([]), *up, *([b"\r\x15\r"] * 12))
+    e(b"abcdefg", 0, job, b""), e(b"-", 0, job, b""), e(b"", 10, job, b""), e(b"", 0, job[:-1], b""), e(b"", 0, b"", b"")
+    for _ in range(150):
+        e(b"", rng.randint(0, 3), job, *(list(up) + [rng.choice(says[:6] + says[2:4] * 3) for _ in range(rng.randint(1, 9))]))
+
+
 # ── the program blocks ──
 def listing(text):
     if len(text) > 1999:
@@ -475,6 +687,8 @@ def main():
     codec(rng)
     replies(rng)
     journal(rng)
+    central(rng)
+    device(rng)
     program = lines(rng)
     crates = os.path.join(os.path.dirname(os.path.abspath(__file__)), "..", "crates")
     vectors = ["\n".join(rows + [""]).encode() for rows in (calls, answers)]

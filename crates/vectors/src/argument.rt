@@ -148,7 +148,7 @@ fn put_run(run: Run, out: &mut [u8], at: usize) -> usize
 }
 
 // The number in two bytes, high first.
-fn wide(high: u8, low: u8) -> usize
+pub(crate) fn wide(high: u8, low: u8) -> usize
     ensures { λ r. ⌜ r < 65536 ⌝ }
 {
     high as usize * 256 + low as usize

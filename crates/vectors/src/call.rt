@@ -1,14 +1,18 @@
 // The calls, by their letters.
 use crate::answer::put_bytes;
 use crate::answer::put_counted;
+use crate::answer::put_digest;
 use crate::answer::put_next;
 use crate::answer::put_number;
 use crate::answer::put_refusal;
+use crate::answer::put_reply;
 use crate::answer::put_text;
 use crate::answer::start;
 use crate::argument::bytes;
 use crate::argument::letter;
 use crate::argument::number;
+use crate::ends::put_conversation;
+use crate::ends::put_play;
 use block::Ending;
 use block::Reading;
 use block::Reassembled;
@@ -19,13 +23,8 @@ use block::frame::information;
 use block::reassembly::reassemble;
 use block::segmentation::block_count;
 use line::Written;
-use reply::Meaning;
-use reply::Reply;
-ghost use Prim.Native.Nat.{_<_, _≤_};
+ghost use Prim.Native.Nat.{_≤_};
 ghost use lib.ListN.{length};
-
-// What the sums of a digest are reduced by.
-const MODULUS: usize = 1000003;
 
 // What comes of a call. Its last argument is the text that the call is on.
 pub(crate) fn put_answer(call: &[u8], out: &mut [u8]) -> usize
@@ -38,8 +37,10 @@ pub(crate) fn put_answer(call: &[u8], out: &mut [u8]) -> usize
         b'c' => put_checksum(text, out),
         b'r' => put_reading(text, out),
         b'j' => put_reassembly(call, out),
-        b'y' => put_reply(reply::read(text), out),
+        b'y' => put_reply(reply::read(text), out, 0),
         b'k' => put_check(text, out),
+        b'd' => put_conversation(call, out),
+        b'e' => put_play(call, out),
         b'n' => put_bytes(journal::record::newest(text, number(call, 1)), out, 0),
         b'o' => put_bytes(journal::record::oldest(text, number(call, 1)), out, 0),
         _ => put_output(call, text, out),
@@ -83,7 +84,7 @@ fn put_written(call: &[u8], text: &[u8], written: &[u8], out: &mut [u8]) -> usiz
 {
     match letter(call, 0) {
         b's' => put_blocks(block_count(text.len()), written, out),
-        b'a' => put_digest(written, out),
+        b'a' => put_digest(written, out, 0),
         _ => put_counted(written, out, 0),
     }
 }
@@ -94,32 +95,6 @@ fn put_blocks(count: usize, blocks: &[u8], out: &mut [u8]) -> usize
     let at = put_number(count, out, 0);
     let end = put_text(b": ", out, at);
     put_counted(blocks, out, end)
-}
-
-// Long bytes by their number and a sum that tells places apart.
-fn put_digest(bytes: &[u8], out: &mut [u8]) -> usize
-    ensures { λ r. ⌜ r ≤ length (now (out .exit)) ⌝ }
-{
-    let at = put_number(bytes.len(), out, 0);
-    let end = put_text(b" ", out, at);
-    put_number(digest(bytes), out, end)
-}
-
-fn digest(bytes: &[u8]) -> usize {
-    let mut sum = 0;
-    let mut i = 0;
-    while i < bytes.len() {
-        sum = (sum + weight(bytes[i], i)) % MODULUS;
-        i += 1;
-    }
-    sum
-}
-
-// A byte times its place from 1, reduced.
-fn weight(byte: u8, i: usize) -> usize
-    ensures { λ r. ⌜ r < 1000003 ⌝ }
-{
-    byte as usize * (i % MODULUS + 1) % MODULUS
 }
 
 // The checksum, and the characters that carry it.
@@ -227,22 +202,6 @@ fn put_state(state: Reassembly, out: &mut [u8], at: usize) -> usize
         return put_text(b" whole", out, end);
     }
     put_text(b" part", out, end)
-}
-
-fn put_reply(reply: Reply, out: &mut [u8]) -> usize
-    ensures { λ r. ⌜ r ≤ length (now (out .exit)) ⌝ }
-{
-    let Reply::Recognized(meaning) = reply else {
-        return put_text(b"unrecognized", out, 0);
-    };
-    match meaning {
-        Meaning::IdRequest => put_text(b"id request", out, 0),
-        Meaning::Acceptance => put_text(b"acceptance", out, 0),
-        Meaning::Ack => put_text(b"ack", out, 0),
-        Meaning::Nak => put_text(b"nak", out, 0),
-        Meaning::Rs => put_text(b"rs", out, 0),
-        Meaning::Eot => put_text(b"eot", out, 0),
-    }
 }
 
 // The number of records of the journal that the text is.

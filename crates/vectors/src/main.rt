@@ -4,6 +4,7 @@
 mod answer;
 mod argument;
 mod call;
+mod ends;
 
 use line::character::LF;
 use line::memory::find;

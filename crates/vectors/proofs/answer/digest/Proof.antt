@@ -2,8 +2,8 @@
 use Prim.Native.Nat.{_<_, _-_}
 use borrow.Author.Needs.{needs}
 use lib.ListN.{length}
-use Rattle.vectors.proofs.call.digest.Statement.{statement}
-use Rattle.vectors.proofs.call.digest.Tie as tie
+use Rattle.vectors.proofs.answer.digest.Statement.{statement}
+use Rattle.vectors.proofs.answer.digest.Tie as tie
 
 abbrev Inv-loop : tie.InvT-loop
 Inv-loop bytes sum₀ i₀ sum i = sum < 1000003

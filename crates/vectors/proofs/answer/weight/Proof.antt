@@ -3,8 +3,8 @@ use Prim.Native.Nat.{_+_, _%_, _≤_}
 use native.Mathlib.Nat.{mul-le-mul}
 use native.Mathlib.Omega.{arith}
 use borrow.Author.Needs.{needs}
-use Rattle.vectors.proofs.call.weight.Statement.{statement}
-use Rattle.vectors.proofs.call.weight.Tie as tie
+use Rattle.vectors.proofs.answer.weight.Statement.{statement}
+use Rattle.vectors.proofs.answer.weight.Tie as tie
 
 add-result : tie.Need-add-result
 add-result c = search needs
