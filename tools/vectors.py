@@ -516,9 +516,16 @@ class Central:
         return b"\r\x06\r"
 
 
+DROP = b"\xff\xff"  # stands for the driver's word that the line was dropped
+
+
 def converse(central, lines):
     out = []
     for line in lines:
+        if line == DROP:
+            central.stage, central.failures, central.pending = "idle", 0, b""
+            out.append("-")
+            continue
         try:
             out.append(plain(central.step(line)))
         except Refused as r:
@@ -548,6 +555,9 @@ def central(rng):
     bad = page[:-2] + b"0\r"
     for n in range(4):
         d(b"", 2000, n, [123], empty, *log, *([bad] * (n + 1)), page), d(b"", 2000, n, [123], empty, *log, *([bad] * n), page, *([bad] * n), page), d(b"", 2000, n, [123], empty, b"\r", *([b"?"] * n), b"\r", b"?", b"\r")
+    drop = [DROP]
+    d(b"", 2000, 3, [123], empty, *log, block(b"123\rA", US), drop, page, *log, block(b"\r", ETX), page), d(b"", 2000, 3, [123], empty, *log, page, b"\x04\r", b"\r", drop, *log, page, drop, b"\r")
+    d(b"", 2000, 1, [123], empty, *log, bad, drop, *log, bad, bad, page, drop, *log, page), d(b"x", 2000, 1, [123], empty, b"\r", b"?", drop, b"\r", b"?", b"?", drop, b"\r", b"\x1bPG1x\r", page)
     flip = bytearray(map(with_parity, page)); flip[0] ^= 0x80
     d(b"", 2000, 3, [123], empty, *log, [bytes(flip)], page, [b"\x8d\x8d"], [b"\x0d"])
     long = b"123\r" + b"A" * 1995 + b"\r"

@@ -71,6 +71,12 @@ fn hear(
     let listed = read_pagers(&numbers[..n], &mut pagers);
     let mut string = [0; 512];
     let k = bytes(call, index, &mut string);
+    if is_drop(&string[..k]) {
+        return central::Stepped {
+            outcome: Written::Count(0),
+            state: central::step::hang_up(state),
+        };
+    }
     central::step::step(
         state,
         central_settings(call),
@@ -79,6 +85,14 @@ fn hear(
         &string[..k],
         answer,
     )
+}
+
+// Two bytes FF stand for the driver's word that the line was dropped.
+fn is_drop(string: &[u8]) -> bool {
+    if string.len() != 2 {
+        return false;
+    }
+    string[0] == 0xFF && string[1] == 0xFF
 }
 
 fn central_settings(call: &[u8]) -> central::Settings {
