@@ -16,3 +16,8 @@ mod RunFollows
 pub mod Demand
 pub mod FaultLaws
 mod Example
+mod ArriveLaws
+mod TestedLaws
+mod ExchangeLaws
+mod LoopLaws
+mod CallLaws

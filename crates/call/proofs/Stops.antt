@@ -30,7 +30,7 @@ module _ (i : Inputs) (good : allLegal (i .job) ≡ true) where
   reply d e = replyRead (hit (d .1) (answer i (d .0) e))
 
   -- an exchange leaves the step in range, and fewer to make unless the device has stopped
-  exchange-falls : (d : Damage × Damage) (e : Ends) → Ranged e → Ranged (exchange i d e) × ((e .step ≡ Stopped) ⊎ (left (exchange i d e) < left e))
+  pub exchange-falls : (d : Damage × Damage) (e : Ends) → Ranged e → Ranged (exchange i d e) × ((e .step ≡ Stopped) ⊎ (left (exchange i d e) < left e))
   unfolding exchange follows
   exchange-falls d e w = (moves-within (i .retries) (i .job) good (e .step) (reply d e) w, moves-fall (i .retries) (i .job) good (e .step) (reply d e) (w .there))
 

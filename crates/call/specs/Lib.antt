@@ -2,3 +2,5 @@ pub mod Run
 pub mod Clean
 pub mod Demand
 pub mod Faults
+pub mod Call
+pub mod Inner

@@ -1,0 +1,74 @@
+-- What a call of `run` comes to: the refusals in document 01's order, and the run of the inputs at the faults read as damage.
+use mathlib.Core.Bool.{Bool, not, _&&_}
+use mathlib.Core.List.{List, map}
+use mathlib.Core.Path.{_≡_}
+use Prim.Native.Nat.{ℕ}
+use lib.Dec.{ltb, eqb}
+use lib.ListN.{length}
+use Rattle.line.specs.Answer.{Outcome, done, refused, refusalNumber, mapDone, andThen, output, overlay}
+use Rattle.line.specs.Password.{passwordText}
+use Rattle.line.specs.Test.{if_then_else_, all}
+use Rattle.journal.specs.Append.{decodeIn}
+use Rattle.journal.specs.Encoding.{encode}
+use Rattle.journal.specs.Walk.{decode}
+use Rattle.central.specs.Step as CentralStep
+use Rattle.central.specs.declared.state.Settings as CentralSettings
+use Rattle.device.specs.Reaction.{verdictNumber}
+use Rattle.device.specs.Step as DeviceStep
+use Rattle.device.specs.declared.state.Settings as DeviceSettings
+use Rattle.call.specs.Demand.{Demand3}
+use Rattle.call.specs.Faults.{faulted}
+use Rattle.call.specs.Run.{Inputs, Outcome as Result, run}
+use Rattle.call.specs.declared.run.Ran.{Ran}
+use Rattle.call.specs.declared.run.Ran.the-variants.{Done, Refused}
+use Rattle.call.specs.declared.run.Totals.{Totals}
+
+-- the inputs of a run, from both ends' settings, the pager list, the job and the starting journal
+abbrev pub inputsOf : DeviceSettings.Settings → CentralSettings.Settings → List ℕ → List (List ℕ) → List (List ℕ) → Inputs
+inputsOf d c pagers job journal =
+    record {
+      job = job;
+      password = passwordText (d .password);
+      retries = d .retries;
+      rules = CentralStep.rulesOf c pagers;
+      journal = journal;
+    }
+
+-- the inputs of a run, and what it comes to
+pub record Played : Type 0 where
+  pub inputs : Inputs
+  pub result : Result
+
+-- a run of the inputs at the faults read as damage
+abbrev pub played : List ℕ → Inputs → Played
+played faults i = record { inputs = i; result = run i (faulted i faults) }
+
+-- a fault is 0 to 8
+abbrev pub fault : ℕ → Bool
+fault f = ltb f 9
+
+-- a call: 9 where settings, pager list or a fault are out of range, 1 where the journal's buffer has the wrong size, 7 where job or journal are not well formed,
+-- 1 where the verdict buffer has not one byte for each transaction
+unfoldable pub called : DeviceSettings.Settings → CentralSettings.Settings → List ℕ → List ℕ → List ℕ → ℕ → List ℕ → ℕ → Outcome Played
+called d c pagers job buffer n faults room =
+    if not (DeviceStep.settingsInRange d && CentralStep.settingsInRange c && CentralStep.pagersInRange pagers && all fault faults) then refused 9
+    else if not (eqb (length buffer) 32004) then refused 1
+    else andThen (decode job) (λ ts. andThen (decodeIn buffer n) (λ js.
+    if not (eqb room (length ts)) then refused 1
+    else done (played faults (inputsOf d c pagers ts js))))
+
+-- an answer as document 01 gives it: 0 with the totals, or the refusal's number
+abbrev pub ranAs : Ran → Outcome Totals
+ranAs (Done t) = done t
+ranAs (Refused r) = refused (refusalNumber r)
+
+-- the totals of a run
+abbrev pub totalsOf : Played → Totals
+totalsOf p = record { transmissions = p .result .transmissions; journal = length (encode (p .result .journal)) }
+
+-- what a run owes: its totals, the journal's buffer and the verdict buffer; and where it is done, the whole of demand 3 of its inputs
+pub record Runs (o : Outcome Played) (d : DeviceSettings.Settings) (c : CentralSettings.Settings) (pagers : List ℕ) (r : Ran) (buffer buffer′ verdicts verdicts′ : List ℕ) : Type 0 where
+  pub answers : ranAs r ≡ mapDone totalsOf o
+  pub stored : buffer′ ≡ overlay (output (mapDone (λ p. encode (p .result .journal)) o)) buffer
+  pub judged : verdicts′ ≡ overlay (output (mapDone (λ p. map verdictNumber (p .result .verdicts)) o)) verdicts
+  pub demand : (p : Played) → o ≡ done p → Demand3 (p .inputs)

@@ -1,0 +1,100 @@
+// One transmission: a string of the device over the line, and the central's answer.
+use crate::fault::arrive;
+use central::step::step as step_central;
+use device::Given;
+use device::Verdict;
+use device::step::step as step_device;
+use line::Written;
+ghost use mathlib.Core.List.{List, map};
+ghost use mathlib.Core.Path.{_≡_};
+ghost use Prim.Native.Nat.{ℕ, _+_, _<_};
+ghost use lib.ListN.{length};
+ghost use Rattle.device.specs.Reaction.{verdictNumber};
+ghost use Rattle.device.specs.declared.state.Verdict as Verdicts;
+ghost use Rattle.call.specs.Call.{inputsOf};
+ghost use Rattle.call.specs.Faults.{damages};
+ghost use Rattle.call.specs.Inner.{Exchanges, Holds, Sound, endsOf};
+ghost use Rattle.call.specs.Run as Run;
+
+// Both ends between two transmissions, and the length of the string that the device has put out.
+pub struct Saved {
+    pub device: device::State,
+    pub central: central::State,
+    pub count: usize,
+}
+
+// The string at the start of the memory is sent, and answered: both ends behind it.
+pub(crate) fn exchange(
+    ends: Saved,
+    fault: u8,
+    job: &[u8],
+    device: device::Settings,
+    central: central::Settings,
+    pagers: &[u32],
+    journal: &mut [u8],
+    memory: &mut [u8],
+    verdicts: &mut [u8],
+) -> Saved
+    requires { ⌜ (0 < ends .count) × (length (now memory) ≡ 256) × ((ts : List (List ℕ)) × (js₀ : List (List ℕ)) × (js : List (List ℕ)) × (vs : List Verdicts.Verdict) × Sound device central (now pagers) (now job) ts × Holds (inputsOf device central (now pagers) ts js₀) central ends js vs (now journal) (now memory) (now verdicts)) ⌝ }
+    ensures { λ r. ⌜ ((ts js₀ js : List (List ℕ)) (vs : List Verdicts.Verdict) (n : ℕ) → Sound device central (now (pagers .entry)) (now (job .entry)) ts → Holds (inputsOf device central (now (pagers .entry)) ts js₀) central ends js vs (now (journal .entry)) (now (memory .entry)) (now (verdicts .entry)) → let i = inputsOf device central (now (pagers .entry)) ts js₀ in let e = endsOf ends js vs n in Exchanges i central (Run.exchange i (damages i fault e) e) (n + 1) r (now (journal .entry)) (now (journal .exit)) (now (memory .exit)) (now (verdicts .exit))) ⌝ }
+{
+    let count = ends.count;
+    let desk = ends.device;
+    let host = ends.central;
+    let heard = arrive(fault / 3, count, memory);
+    let mut answer = [0u8; 256];
+    let reacted = step_central(
+        host,
+        central,
+        pagers,
+        journal,
+        &memory[..heard],
+        &mut answer,
+    );
+    let outcome = reacted.outcome;
+    let Written::Count(length) = outcome else {
+        return ends;
+    };
+    let read = arrive(fault % 3, length, &mut answer);
+    let moved = step_device(desk, device, job, &answer[..read], memory);
+    let put = moved.outcome;
+    let Written::Count(next) = put else {
+        return ends;
+    };
+    let given = moved.given;
+    note(given, verdicts);
+    let desk = moved.state;
+    let host = reacted.state;
+    Saved {
+        device: desk,
+        central: host,
+        count: next,
+    }
+}
+
+// A verdict that is given is put in its place, as its number.
+fn note(given: Given, verdicts: &mut [u8])
+    ensures { λ _. ⌜ ((vs : List Verdicts.Verdict) → now (verdicts .entry) ≡ map verdictNumber vs → now (verdicts .exit) ≡ map verdictNumber (Run.noted given vs)) ⌝ }
+{
+    match given {
+        Given::Verdict(transaction, verdict) => {
+            if transaction < verdicts.len() {
+                verdicts[transaction] = verdict_number(verdict);
+            }
+        }
+        Given::Nothing => {}
+    }
+}
+
+// Document 01's number of a verdict.
+fn verdict_number(verdict: Verdict) -> u8
+    ensures { λ r. ⌜ r ≡ verdictNumber verdict ⌝ }
+{
+    match verdict {
+        Verdict::Accepted => 1,
+        Verdict::Rejected => 2,
+        Verdict::Unconfirmed => 3,
+        Verdict::Deferred => 4,
+        Verdict::Unsent => 5,
+    }
+}
