@@ -15,7 +15,7 @@ use Rattle.line.proofs.OutcomeLaws.{choice}
 use Rattle.central.proofs.HearingLaws.{flipped-noise}
 use Rattle.central.specs.Reaction.{Answer, nothing, idRequest, acceptance, ack, nak, rs, hangUp, answerText}
 use Rattle.device.proofs.StringLaws.{string-seven}
-use Rattle.call.specs.Demand.{Replaced, Unheard, Unread, FairAt, FairFor, Fair}
+use Rattle.call.specs.Demand.{Replaced, Unheard, NoReply, FairAt, FairFor, Fair}
 use Rattle.call.specs.Faults.{garbled, damage, damages, damagesFrom, faulted}
 use Rattle.call.specs.Run.{Damage, whole, other, hit, Inputs, Ends, start, string, answer, responds, exchange, after, mostTransmissions}
 use Rattle.call.specs.Run as Run
@@ -88,7 +88,7 @@ module _ (i : Inputs) (l : Legal i) where
       record {
         unheard = fault-replaced (Unheard (e .central .stage)) (fault / 3) (string i e)
             (λ b bs h. let (small, even) = first-even _ narrow b bs h in inl (flipped-noise (e .central .stage) b bs small even));
-        unread = fault-replaced Unread (fault % 3) (answer i d e)
+        no-reply = fault-replaced NoReply (fault % 3) (answer i d e)
             (λ b bs h. let (small, even) = first-even (answerText x) (answer-seven x) b bs h in flipped-unrecognized b bs small even);
       }
 

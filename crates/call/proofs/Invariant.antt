@@ -285,54 +285,53 @@ module _ (R : Rules) where
           breaks : (v : Verdict) {s : Step} → decides v ≡ false → ¬ Calm → Good (world (device stopped ts (told ++ v ∷ [])) s j)
           breaks v e n = is-stopped (broke match-is r e (inl refl) n)
 
+          -- an answer that does not arrive whole is not read: the device stops in the transaction
+          unless-lost : (k : Harm) (b : Segment) (bs : List Segment) (a : ℕ) (x : Reply J) → Allowed k →
+              (¬ Calm → Good (world (device stopped ts (told ++ Unconfirmed ∷ [])) (x .step) (x .journal))) →
+              Then whole (device (sending b bs a) (t ∷ ts) told) x → Then k (device (sending b bs a) (t ∷ ts) told) x
+          unfolding answered reads
+          unless-lost whole b bs a x n u g = g
+          unless-lost lost b bs a x n u g = u n
+          unless-lost garbled b bs a x n u g = u n
+
           -- ACK to the last block
           accepts : (k : Harm) → Allowed k → (b : Segment) (a : ℕ) → admits j t ≡ true →
               Then k (device (sending b [] a) (t ∷ ts) told) (record { step = blocks 0 []; journal = R .put j t; answer = ack })
           unfolding answered reads acked
-          accepts whole n b a e = good-begin match-is (accepted-next e)
-          accepts lost n b a e = is-stopped (broke match-is r refl (inr (sym (after-accepted j t e), refl)) n)
-          accepts garbled n b a e = is-stopped (broke match-is r refl (inr (sym (after-accepted j t e), refl)) n)
+          accepts k n b a e =
+              unless-lost k b [] a _ n (λ m. is-stopped (broke match-is r refl (inr (sym (after-accepted j t e), refl)) m)) (good-begin match-is (accepted-next e))
 
           -- RS
           rejects : (k : Harm) → Allowed k → (b : Segment) (bs : List Segment) (a : ℕ) → admits j t ≡ false →
               Then k (device (sending b bs a) (t ∷ ts) told) (record { step = blocks 0 []; journal = j; answer = rs })
           unfolding answered reads
-          rejects whole n b bs a e = good-begin match-is (rejected-next e)
-          rejects lost n b bs a e = breaks Unconfirmed refl n
-          rejects garbled n b bs a e = breaks Unconfirmed refl n
+          rejects k n b bs a e = unless-lost k b bs a _ n (breaks Unconfirmed refl) (good-begin match-is (rejected-next e))
 
           -- ACK to a block that is not the last
           goes-on : (k : Harm) → Allowed k → {u : Txn} (b c : Segment) (bs : List Segment) (a : ℕ) (p : List ℕ) → Pieces u c bs → p ++ u ≡ t →
               Then k (device (sending b (c ∷ bs) a) (t ∷ ts) told) (record { step = blocks 0 p; journal = j; answer = ack })
           unfolding answered reads acked
-          goes-on whole n b c bs a p x e = is-sending match-is r x e
-          goes-on lost n b c bs a p x e = breaks Unconfirmed refl n
-          goes-on garbled n b c bs a p x e = breaks Unconfirmed refl n
+          goes-on k n b c bs a p x e = unless-lost k b (c ∷ bs) a _ n (breaks Unconfirmed refl) (is-sending match-is r x e)
 
           -- no answer
           hears-nothing : (k : Harm) → ¬ Calm → (b : Segment) (bs : List Segment) (a : ℕ) (s : Step) →
               Then k (device (sending b bs a) (t ∷ ts) told) (record { step = s; journal = j; answer = nothing })
           unfolding answered reads
-          hears-nothing whole n b bs a s = breaks Unconfirmed refl n
-          hears-nothing lost n b bs a s = breaks Unconfirmed refl n
-          hears-nothing garbled n b bs a s = breaks Unconfirmed refl n
+          hears-nothing k n b bs a s = unless-lost k b bs a _ (allowed k n) (breaks Unconfirmed refl) (breaks Unconfirmed refl n)
 
           -- the central hangs up
           hears-hangup : (k : Harm) → ¬ Calm → (b : Segment) (bs : List Segment) (a : ℕ) (s : Step) →
               Then k (device (sending b bs a) (t ∷ ts) told) (record { step = s; journal = j; answer = hangUp })
           unfolding answered reads
-          hears-hangup whole n b bs a s = breaks Deferred refl n
-          hears-hangup lost n b bs a s = breaks Unconfirmed refl n
-          hears-hangup garbled n b bs a s = breaks Unconfirmed refl n
+          hears-hangup k n b bs a s = unless-lost k b bs a _ (allowed k n) (breaks Unconfirmed refl) (breaks Deferred refl n)
 
           -- NAK: the central took nothing, so the block may be sent again
           hears-nak : (k : Harm) → ¬ Calm → {u : Txn} (b : Segment) (bs : List Segment) (a f : ℕ) (p : List ℕ) → Pieces u b bs → p ++ u ≡ t →
               Then k (device (sending b bs a) (t ∷ ts) told) (record { step = blocks f p; journal = j; answer = nak })
           unfolding answered reads
-          hears-nak whole n b bs a f p x e =
-              branch (λ d. Good (world d (blocks f p) j)) (leb a (L .D)) (λ e′. is-sending match-is r x e) (λ e′. breaks Deferred refl n)
-          hears-nak lost n b bs a f p x e = breaks Unconfirmed refl n
-          hears-nak garbled n b bs a f p x e = breaks Unconfirmed refl n
+          hears-nak k n b bs a f p x e =
+              unless-lost k b bs a _ (allowed k n) (breaks Unconfirmed refl)
+              (branch (λ d. Good (world d (blocks f p) j)) (leb a (L .D)) (λ e′. is-sending match-is r x e) (λ e′. breaks Deferred refl n))
 
           -- a block that arrives whole
           block-taken : (k : Harm) → Allowed k → {u : Txn} (b : Segment) (bs : List Segment) (a : ℕ) (p : List ℕ) → Pieces u b bs → p ++ u ≡ t →

@@ -28,7 +28,7 @@ use Rattle.device.specs.Reaction.{moves, stringText}
 use Rattle.device.specs.declared.state.Step.{Step}
 use Rattle.device.specs.declared.state.Step.the-variants.{Stopped}
 use Rattle.device.specs.declared.state.Verdict.{Verdict}
-use Rattle.call.specs.Demand.{Replaced, Unheard, Unread, FairAt, FairFor}
+use Rattle.call.specs.Demand.{Replaced, Unheard, NoReply, FairAt, FairFor}
 use Rattle.call.specs.Run.{Damage, noted, hit, Damages, next, Inputs, Ends, answer, responds, follows, exchange, after}
 use Rattle.call.specs.Run as Run
 use Rattle.call.proofs.CentralFollows.{Says, says-hello, says-login, says-block, says-bye, SameCentral, SameReply, hears-same, noise-same, silence-same}
@@ -119,21 +119,21 @@ hit-whole [] = refl
 hit-whole (b ∷ bs) = refl
 
 -- where nothing arrives nothing is read
-lost-unread : (bytes : List ℕ) → replyRead (hit Run.nothing bytes) ≡ Unrecognized
-lost-unread [] = empty-unrecognized
-lost-unread (b ∷ bs) = empty-unrecognized
+lost-unrecognized : (bytes : List ℕ) → replyRead (hit Run.nothing bytes) ≡ Unrecognized
+lost-unrecognized [] = empty-unrecognized
+lost-unrecognized (b ∷ bs) = empty-unrecognized
 
 -- nor is other bytes
-other-unread : (others bytes : List ℕ) → Replaced Unread (Run.other others) bytes → replyRead (hit (Run.other others) bytes) ≡ Unrecognized
-other-unread others [] fair = empty-unrecognized
-other-unread others (b ∷ bs) fair = fair
+other-unrecognized : (others bytes : List ℕ) → Replaced NoReply (Run.other others) bytes → replyRead (hit (Run.other others) bytes) ≡ Unrecognized
+other-unrecognized others [] fair = empty-unrecognized
+other-unrecognized others (b ∷ bs) fair = fair
 
 -- the device reads what arrives of an answer as the model does
-returns-same : (x : Answer) (d : Damage) → Replaced Unread d (answerBytes x) → replyRead (hit d (answerBytes x)) ≡ readAs (returns (harmed d) x)
+returns-same : (x : Answer) (d : Damage) → Replaced NoReply d (answerBytes x) → replyRead (hit d (answerBytes x)) ≡ readAs (returns (harmed d) x)
 returns-same x Run.whole fair = ap replyRead (hit-whole (answerBytes x)) ∙ answer-read x
-returns-same x Run.nothing fair = lost-unread (answerBytes x)
-returns-same x (Run.other []) fair = other-unread [] (answerBytes x) fair
-returns-same x (Run.other (b ∷ bs)) fair = other-unread (b ∷ bs) (answerBytes x) fair
+returns-same x Run.nothing fair = lost-unrecognized (answerBytes x)
+returns-same x (Run.other []) fair = other-unrecognized [] (answerBytes x) fair
+returns-same x (Run.other (b ∷ bs)) fair = other-unrecognized (b ∷ bs) (answerBytes x) fair
 
 -- ── A transmission ──
 
@@ -145,7 +145,7 @@ module _ (i : Inputs) (l : Legal i) where
 
   -- the central's answer to a string, and what the device does with it
   answered-same : (d : Damage) (e : Ends) (n : ℕ) (x : Reaction) (r : Model.Reply (List (List ℕ))) {v : Device} → Same i (e .step) (e .verdicts) v →
-      Replaced Unread d (answerBytes (x .answer)) → SameReply i x r →
+      Replaced NoReply d (answerBytes (x .answer)) → SameReply i x r →
       let m = moves (i .retries) (i .job) (e .step) (replyRead (hit d (answerBytes (x .answer)))) in
       SameEnds (record { step = m .next; verdicts = noted (m .given) (e .verdicts); central = x .next; transmissions = n })
       (answered (model i) (limits i) (harmed d) v r)
@@ -165,7 +165,7 @@ module _ (i : Inputs) (l : Legal i) where
       let narrow = string-seven (i .job) (i .password) (e .step) (l .job) there (l .plain) in
       let fits = string-short (i .job) (i .password) (e .step) there (l .short) in
       let filled = string-some (i .job) (i .password) (e .step) moving in
-      answered-same (d .1) e _ _ _ dev (fair .unread) (arrives-same i _ narrow fits filled says both (d .0) (fair .unheard))
+      answered-same (d .1) e _ _ _ dev (fair .no-reply) (arrives-same i _ narrow fits filled says both (d .0) (fair .unheard))
 
   -- a device that has stopped puts out no string: nothing moves
   stopped-same : (d : Damage × Damage) (vs : List Verdict) (c : Central) (n : ℕ) {v : Device} {s : Model.Step} {j : List (List ℕ)} → Same i Stopped vs v → SameCentral i c s j →

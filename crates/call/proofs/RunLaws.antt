@@ -9,7 +9,7 @@ use Rattle.central.specs.Reaction.{reacts}
 use Rattle.device.specs.Reaction.{moves}
 use Rattle.device.specs.declared.state.Step.{Step}
 use Rattle.device.specs.declared.state.Step.the-variants.{Stopped}
-use Rattle.call.specs.Demand.{Replaced, Unheard, Unread, FairFor}
+use Rattle.call.specs.Demand.{Replaced, Unheard, NoReply, FairFor}
 use Rattle.call.specs.Run.{Damage, whole, Damages, next, Inputs, Ends, string, answer, responds, follows, counted, exchange, after}
 
 -- ── Rest ──
@@ -58,6 +58,6 @@ pub clean-fair : (i : Inputs) (n : ℕ) (e : Ends) → FairFor i n [] e
 unfolding FairFor
 clean-fair i zero e = tt
 clean-fair i (suc n) e = (
-  record { unheard = whole-replaced (Unheard (e .central .stage)) (string i e); unread = whole-replaced Unread (answer i whole e) },
+  record { unheard = whole-replaced (Unheard (e .central .stage)) (string i e); no-reply = whole-replaced NoReply (answer i whole e) },
   clean-fair i n (exchange i (whole, whole) e),
 )

@@ -1,51 +1,20 @@
--- The tests of a call: a step with no room for its output is refused for what is out of range, or for its room; and which case of `tested` the tests leave.
-use mathlib.Core.Bool.{Bool, true, false, not, _&&_}
+-- The tests of a call: which case of `tested` they leave.
+use mathlib.Core.Bool.{true, false}
 use mathlib.Core.List.{List}
 use mathlib.Core.Path.{_≡_, refl, sym, _∙_}
-use Prim.Native.Nat.{ℕ, _<_}
-use borrow.Author.Tests.{lt-ltb, eq-eqb, ne-eqb}
+use Prim.Native.Nat.{ℕ}
+use borrow.Author.Tests.{eq-eqb, ne-eqb}
 use lib.ListN.{length}
 use Rattle.line.specs.Answer.{Outcome, done, refused, mapDone, andThen}
-use Rattle.line.specs.Test.{if_then_else_, all}
+use Rattle.line.specs.Test.{all}
 use Rattle.journal.specs.Append.{decodeIn}
 use Rattle.journal.specs.Walk.{decode}
-use Rattle.central.specs.Reaction.{Reaction}
 use Rattle.central.specs.Step as CentralStep
 use Rattle.central.specs.declared.state.Settings as CentralSettings
 use Rattle.device.specs.Step as DeviceStep
 use Rattle.device.specs.declared.state.Settings as DeviceSettings
 use Rattle.call.specs.Call.{fault}
-use Rattle.call.specs.Inner.{endsInRange, outOfRange, tested}
-
--- ── No room ──
-
--- what is refused first for what is out of range, and then for its room
-refused-range : {A : Type 0} (f : A → ℕ) (b : Bool) → outOfRange (mapDone f (if not b then refused 9 else refused 1)) ≡ not b
-refused-range f true = refl
-refused-range f false = refl
-
--- the start of a device with no room
-pub device-tests : (f : DeviceStep.Sent → ℕ) (d : DeviceSettings.Settings) (job : List ℕ) (room : ℕ) → room < 256 →
-    outOfRange (mapDone f (DeviceStep.started d job room)) ≡ not (DeviceStep.settingsInRange d)
-unfolding DeviceStep.started
-device-tests f d job room h = rw (lt-ltb room 256 h) (refused-range f (DeviceStep.settingsInRange d))
-
--- a first step of the central with no room
-pub central-tests : (f : Reaction → ℕ) (c : CentralSettings.Settings) (n : ℕ) (pagers buffer string : List ℕ) (room : ℕ) → room < 7 →
-    outOfRange (mapDone f (CentralStep.stepped (CentralStep.startOf n) c pagers buffer string room)) ≡
-    not (CentralStep.settingsInRange c && CentralStep.pagersInRange pagers && true)
-unfolding CentralStep.stepped all
-central-tests f c n pagers buffer string room h =
-    rw (lt-ltb room 7 h) (refused-range f (CentralStep.settingsInRange c && CentralStep.pagersInRange pagers && true))
-
--- both ends' tests together
-pub both-tests : (a b c : Bool) → a ≡ true → not (not (b && c && true)) ≡ a && b && c
-both-tests a true true e = rw e
-both-tests a true false e = rw e
-both-tests a false true e = rw e
-both-tests a false false e = rw e
-
--- ── The tests in their order ──
+use Rattle.call.specs.Inner.{endsInRange, tested}
 
 -- a call
 module _ (d : DeviceSettings.Settings) (c : CentralSettings.Settings) (pagers job buffer : List ℕ) (n : ℕ) (faults : List ℕ) where

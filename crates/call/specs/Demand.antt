@@ -29,14 +29,14 @@ Replaced P (other bytes) (b ∷ bs) = P bytes
 abbrev pub Unheard : Stage → List ℕ → Type 0
 Unheard stage bytes = (heard stage bytes ≡ noise) ⊎ (heard stage bytes ≡ silence)
 
--- neither does the device
-abbrev pub Unread : List ℕ → Type 0
-Unread bytes = replyRead bytes ≡ Unrecognized
+-- these bytes are no reply: neither does the device
+abbrev pub NoReply : List ℕ → Type 0
+NoReply bytes = replyRead bytes ≡ Unrecognized
 
 -- in one transmission, the end that gets other bytes recognizes nothing in them
 pub record FairAt (i : Inputs) (d : Damage × Damage) (e : Ends) : Type 0 where
   pub unheard : Replaced (Unheard (e .central .stage)) (d .0) (string i e)
-  pub unread : Replaced Unread (d .1) (answer i (d .0) e)
+  pub no-reply : Replaced NoReply (d .1) (answer i (d .0) e)
 
 -- the same in so many transmissions
 unfoldable pub FairFor : Inputs → ℕ → Damages → Ends → Type 0

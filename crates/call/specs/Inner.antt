@@ -1,5 +1,5 @@
 -- What the functions inside a run ask and owe: inputs in range, both ends' saved states, and one transmission.
-use mathlib.Core.Bool.{Bool, true, false, not, _&&_}
+use mathlib.Core.Bool.{Bool, true, not, _&&_}
 use mathlib.Core.List.{List, map}
 use mathlib.Core.Path.{_≡_}
 use Prim.Native.Nat.{ℕ, _≤_}
@@ -28,11 +28,6 @@ use Rattle.call.specs.declared.run.Totals.{Totals}
 -- both ends' settings and the pager list are in range
 abbrev pub endsInRange : DeviceSettings.Settings → CentralSettings.Settings → List ℕ → Bool
 endsInRange d c pagers = DeviceStep.settingsInRange d && CentralStep.settingsInRange c && CentralStep.pagersInRange pagers
-
--- an outcome refused for what is out of range
-abbrev pub outOfRange : {A : Type 0} → Outcome A → Bool
-outOfRange (done x) = false
-outOfRange (refused n) = eqb n 9
 
 -- the tests before that of the verdict buffer; the number of transactions where they pass
 unfoldable pub tested : DeviceSettings.Settings → CentralSettings.Settings → List ℕ → List ℕ → List ℕ → ℕ → List ℕ → Outcome ℕ

@@ -1,16 +1,15 @@
 // The tests of a call.
 use crate::fault::are_faults;
-use central::step::start as start_central;
-use central::step::step as step_central;
-use device::step::start as start_device;
+use central::range::pagers_in_range;
+use central::range::settings_in_range as central_in_range;
+use device::range::settings_in_range as device_in_range;
 use journal::append::check_in;
 use journal::record::check;
 use line::Refusal;
 use line::Written;
-use line::answer::number;
 ghost use mathlib.Core.Path.{_≡_};
 ghost use Rattle.line.specs.Answer.{writtenAs};
-ghost use Rattle.call.specs.Inner.{endsInRange, outOfRange, tested};
+ghost use Rattle.call.specs.Inner.{endsInRange, tested};
 
 // The size of a journal's buffer.
 const BUFFER: usize = 32004;
@@ -47,36 +46,15 @@ pub(crate) fn test(
     counted
 }
 
-// Both ends' settings and the pager list are in range: a step that has no room for its output is
-// refused for that only once they are.
+// Both ends' settings and the pager list are in range.
 fn ends_in_range(device: device::Settings, central: central::Settings, pagers: &[u32]) -> bool
     ensures { λ r. ⌜ r ≡ endsInRange device central (now (pagers .entry)) ⌝ }
 {
-    let mut none = [0u8; 1];
-    let started = start_device(device, &[], &mut none);
-    let outcome = started.outcome;
-    if is_out_of_range(outcome) {
+    if !device_in_range(device) {
         return false;
     }
-    let mut buffer = [0u8; 1];
-    let stepped = step_central(
-        start_central(0),
-        central,
-        pagers,
-        &mut buffer,
-        &[],
-        &mut none,
-    );
-    let second = stepped.outcome;
-    !is_out_of_range(second)
-}
-
-// Refused for what is out of range.
-fn is_out_of_range(outcome: Written) -> bool
-    ensures { λ r. ⌜ r ≡ outOfRange (writtenAs outcome) ⌝ }
-{
-    match outcome {
-        Written::Count(_) => false,
-        Written::Refused(refusal) => number(refusal) == 9,
+    if !central_in_range(central) {
+        return false;
     }
+    pagers_in_range(pagers)
 }

@@ -2,7 +2,7 @@
 pub mod admission;
 mod answer;
 mod logon;
-mod range;
+pub mod range;
 mod reaction;
 pub mod state;
 pub mod step;

@@ -35,7 +35,8 @@ pub(crate) fn in_range(settings: Settings, pagers: &[u32], state: State) -> bool
     state_in_range(settings, state)
 }
 
-fn settings_in_range(settings: Settings) -> bool
+// A password, the longest transaction 3 to 2,000 characters, and the retry limit at most 9.
+pub fn settings_in_range(settings: Settings) -> bool
     ensures { λ r. ⌜ r ≡ settingsInRange settings ⌝ }
 {
     let password = settings.password;
@@ -51,7 +52,8 @@ fn settings_in_range(settings: Settings) -> bool
     settings.retries <= RETRIES
 }
 
-fn pagers_in_range(pagers: &[u32]) -> bool
+// At most 1,000 numbers of at most eight digits.
+pub fn pagers_in_range(pagers: &[u32]) -> bool
     ensures { λ r. ⌜ r ≡ pagersInRange (now (pagers .entry)) ⌝ }
 {
     if PAGERS < pagers.len() {

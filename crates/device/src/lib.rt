@@ -1,5 +1,5 @@
 // The entry device: what it sends, and what it makes of each reply.
-mod range;
+pub mod range;
 mod reaction;
 pub mod state;
 pub mod step;

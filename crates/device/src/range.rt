@@ -20,7 +20,7 @@ pub(crate) const OPENINGS: usize = 3;
 const RETRIES: usize = 9;
 
 // A password, and the retry limit at most 9.
-pub(crate) fn settings_in_range(settings: Settings) -> bool
+pub fn settings_in_range(settings: Settings) -> bool
     ensures { λ r. ⌜ r ≡ settingsInRange settings ⌝ }
 {
     let password = settings.password;

@@ -86,6 +86,10 @@ wrote-refused r m e = record { answers = rw e; leaves = rw e (overlay-none m) }
 pub wrote-done : {o : Outcome (List ℕ)} (xs : List ℕ) (n : ℕ) (before after : List ℕ) → o ≡ done xs → n ≡ length xs → after ≡ overlay xs before → Wrote o (Count n) before after
 wrote-done xs n before after e c l = record { answers = rw (e, c) refl; leaves = rw e l }
 
+-- the same of a text changed character by character
+pub wrote-map : {o : Outcome (List ℕ)} (f : ℕ → ℕ) (xs before after : List ℕ) → after ≡ overlay (map f xs) before → o ≡ done (map f xs) → Wrote o (Count (length xs)) before after
+wrote-map f xs before after l e = wrote-done (map f xs) (length xs) before after e (sym (length-map xs f)) l
+
 -- what a refused writer was asked is refused
 pub refused-only : (o : Outcome (List ℕ)) {r : Written} {before after : List ℕ} (q : Refusal) → r ≡ Refused q → Wrote o r before after → o ≡ refused (refusalNumber q)
 refused-only (done xs) q e w = cc (w .answers, ap writtenAs e)

@@ -1,10 +1,12 @@
 -- `ends_at` meets its contract: each test is the next step of the comparison with CR and with CR LF.
+use mathlib.Core.List.{_∷_}
+use mathlib.Core.Path.{_≡_}
 use Prim.Native.Nat.{_+_, _≤_}
 use native.Mathlib.Numerals.{add-one}
 use native.Mathlib.Omega.{arith}
 use borrow.Author.Needs.{needs}
 use borrow.Author.Tests.{eq-eqb, ne-eqb}
-use lib.ListN.{length, drop-of-length-le}
+use lib.ListN.{length, getD, drop, drop-of-length-le}
 use lib.Seq.{drop-cons}
 use Rattle.line.specs.Character.{CR, LF}
 use Rattle.line.specs.Test.{same}
@@ -12,6 +14,15 @@ use Rattle.reply.proofs.TextLaws.{ends-behind}
 use Rattle.line.proofs.AllLaws.{none-left}
 use Rattle.reply.proofs.ends_at.Statement.{statement}
 use Rattle.reply.proofs.ends_at.Tie as tie
+
+-- the text from the place on: CR, a character and what follows them
+behind : (c : tie.Else3) →
+    let a = c .before .before .before .before .args in
+    drop (a .at) (a .text .now) ≡ CR ∷ getD (a .text .now) (a .at + 1) 0 ∷ drop (a .at + 1 + 1) (a .text .now)
+behind c =
+    let a = c .before .before .before .before .args in
+    let text = a .text .now in
+    rw (drop-cons text (a .at) 0 (c .before .before .before .if1 .left), c .before .if2 .left, ← add-one (a .at), drop-cons text (a .at + 1) 0 (c .if3 .left), ← add-one (a .at + 1))
 
 returns : tie.Need-returns
 unfolding same
@@ -44,30 +55,14 @@ shared-slice-read-if4 c = search needs
 
 returns-4 : tie.Need-returns-4
 unfolding same
-returns-4 c =
-    let b = c .before .before .before in
-    let a = b .before .before .before .args in
-    rw (
-      ends-behind (a .text .now) (a .at) (b .before .before .if1 .left) (b .if2 .left),
-      drop-cons (a .text .now) (a .at + 1) 0 (c .before .before .if3 .left),
-      ne-eqb _ LF (c .if4 .taken),
-    )
+returns-4 c = rw (behind (c .before .before), ne-eqb _ LF (c .if4 .taken))
 
 add-result : tie.Need-add-result
 add-result c = search needs
 
 returns-5 : tie.Need-returns-5
 unfolding same
-returns-5 c =
-    let b = c .before .before .before in
-    let a = b .before .before .before .args in
-    rw (
-      ends-behind (a .text .now) (a .at) (b .before .before .if1 .left) (b .if2 .left),
-      drop-cons (a .text .now) (a .at + 1) 0 (c .before .before .if3 .left),
-      eq-eqb _ LF (c .if4 .left),
-      none-left,
-      add-one (a .at + 1),
-    )
+returns-5 c = rw (behind (c .before .before), eq-eqb _ LF (c .if4 .left), none-left)
 
 pub ends-at-spec : {M : Type 1} → statement M
 ends-at-spec =

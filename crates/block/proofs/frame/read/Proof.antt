@@ -1,12 +1,13 @@
 -- `read` meets its contract: each return is the case of `readBlock` that the tests before it leave.
-use mathlib.Core.Bool.{true, _&&_}
+use mathlib.Core.Bool.{true, not, _&&_}
 use mathlib.Core.Path.{_≡_, sym, _∙_}
 use borrow.Author.Tests.{lt-leb, le-leb, not-true, not-false}
 use lib.Dec.{leb}
 use lib.ListN.{length}
 use Rattle.line.specs.Character.{seven}
-use Rattle.line.specs.Test.{all}
-use Rattle.block.specs.Block.{framed, summing, readBlock}
+use Rattle.line.specs.Answer.{done, refused}
+use Rattle.line.specs.Test.{if_then_else_, all}
+use Rattle.block.specs.Block.{inside, framed, summing, readBlock}
 use Rattle.block.proofs.FrameLaws.{inside-part}
 use borrow.Author.Needs.{needs}
 use Rattle.block.proofs.frame.read.Statement.{statement}
@@ -27,6 +28,17 @@ frame c = sym (c .before .is-framed .ensures) ∙ not-false _ (c .if4 .left)
 -- the check characters are right
 check : (c : tie.Else5) → summing (c .before .before .before .before .before .before .before .before .before .args .s .now) ≡ true
 check c = sym (c .before .is-summed .ensures) ∙ not-false _ (c .if5 .left)
+
+-- so it is a block if its information is right
+judged : (c : tie.After-is-right) →
+    let s = c .before .before .before .before .before .before .before .before .before .before .before .before .before .args .s .now in
+    readBlock s ≡ (if not (c .is-right .result) then refused 6 else done (record { info = inside s; ending = c .before .before .ending-of .result }))
+unfolding readBlock
+judged c =
+    let f = c .before .before .before .before in
+    let d = f .before .before .before .before in
+    let s = d .before .before .before .before .before .args .s .now in
+    rw (within (d .before .before), narrow d, frame (f .before .before), check f, ← inside-part s, ← c .before .before .ending-of .ensures, ← c .is-right .ensures)
 
 returns : tie.Need-returns
 unfolding readBlock
@@ -93,22 +105,10 @@ is-right-requires : tie.Need-is-right-requires
 is-right-requires c κs = search needs
 
 returns-6 : tie.Need-returns-6
-unfolding readBlock
-returns-6 c =
-    let f = c .before .before .before .before .before in
-    let d = f .before .before .before .before in
-    let a = d .before .before .before .before .before .args in
-    let wrong = sym (c .before .is-right .ensures) ∙ not-true _ (c .if6 .taken) in
-    rw (within (d .before .before), narrow d, frame (f .before .before), check f, ← inside-part (a .s .now), ← c .before .before .before .ending-of .ensures, wrong)
+returns-6 c = rw (judged (c .before), not-true (c .before .is-right .result) (c .if6 .taken))
 
 returns-7 : tie.Need-returns-7
-unfolding readBlock
-returns-7 c =
-    let f = c .before .before .before .before .before in
-    let d = f .before .before .before .before in
-    let a = d .before .before .before .before .before .args in
-    let good = sym (c .before .is-right .ensures) ∙ not-false _ (c .if6 .left) in
-    rw (within (d .before .before), narrow d, frame (f .before .before), check f, ← inside-part (a .s .now), ← c .before .before .before .ending-of .ensures, good)
+returns-7 c = rw (judged (c .before), not-false (c .before .is-right .result) (c .if6 .left))
 
 pub read-spec : {M : Type 1} → statement M
 read-spec =

@@ -41,7 +41,8 @@ same-length-2 c = search needs
 returns : tie.Need-returns
 returns c = λ ts js₀ js vs n sound holds.
     let r = c .before .before .before .before .before in
-    not-refused _ (c .enum-told .given .1) (central-steps _ _ _ _ ts js₀ js vs _ _ _ _ sound holds _ n (r .before .before .before .before .before .before .arrive .ensures) (r .step .ensures) (omega (arith, slice-aggregate-step-2 (r .before))) .answers)
+    let s = r .before .before .before .before .before .before .before .before .before .before .before .before .before .before .before in
+    not-refused _ (c .enum-told .given .1) (central-steps _ _ _ _ ts js₀ js vs _ _ _ _ sound holds (s .args .fault) n (r .before .before .before .before .before .before .arrive .ensures) (r .step .ensures) (omega (arith, slice-aggregate-step-2 (r .before))) .answers)
 
 slice-aggregate-arrive : tie.Need-slice-aggregate-arrive
 slice-aggregate-arrive c = search needs
@@ -49,8 +50,9 @@ slice-aggregate-arrive c = search needs
 arrive-requires-2 : tie.Need-arrive-requires-2
 arrive-requires-2 c κs =
     let r = c .before .before .before .before .before .before .before in
-    let (ts, js₀, js, vs, sound, holds) = r .before .before .before .before .before .before .before .before .before .before .before .before .before .before .before .pre .2 in
-    answer-put _ (c .before .before .outcome .given .1) (central-steps _ _ _ _ ts js₀ js vs _ _ _ _ sound holds _ 0 (r .before .before .before .before .before .before .arrive .ensures) (r .step .ensures) (omega (arith, slice-aggregate-step-2 (r .before)))) .0
+    let s = r .before .before .before .before .before .before .before .before .before .before .before .before .before .before .before in
+    let (ts, js₀, js, vs, sound, holds) = s .pre .2 in
+    answer-put _ (c .before .before .outcome .given .1) (central-steps _ _ _ _ ts js₀ js vs _ _ _ _ sound holds (s .args .fault) 0 (r .before .before .before .before .before .before .arrive .ensures) (r .step .ensures) (omega (arith, slice-aggregate-step-2 (r .before)))) .0
 
 array-share-prefix-answer : tie.Need-array-share-prefix-answer
 array-share-prefix-answer c = search needs
@@ -78,9 +80,9 @@ returns-2 c = λ ts js₀ js vs n sound holds.
     let d = c .before .before .before .before in
     let r = d .before .before .before .before .before .before .before .before .before .before .before .before in
     let s = r .before .before .before .before .before .before .before .before .before .before .before .before .before .before .before in
-    let central = central-steps _ _ _ _ ts js₀ js vs _ _ _ _ sound holds _ n (r .before .before .before .before .before .before .arrive .ensures) (r .step .ensures) (omega (arith, slice-aggregate-step-2 (r .before))) in
+    let central = central-steps _ _ _ _ ts js₀ js vs _ _ _ _ sound holds (s .args .fault) n (r .before .before .before .before .before .before .arrive .ensures) (r .step .ensures) (omega (arith, slice-aggregate-step-2 (r .before))) in
     let answered = answer-put _ (d .before .before .before .before .before .before .before .outcome .given .1) central .1 in
-    let device = device-steps _ _ _ _ ts js₀ js vs _ _ _ _ sound holds _ n answered (d .before .before .before .before .arrive2 .ensures) (d .step2 .ensures) (omega (arith, r .before .before .before .before .before .memory .given, s .pre .1)) in
+    let device = device-steps _ _ _ _ ts js₀ js vs _ _ _ _ sound holds (s .args .fault) n answered (d .before .before .before .before .arrive2 .ensures) (d .step2 .ensures) (omega (arith, r .before .before .before .before .before .memory .given, s .pre .1)) in
     not-refused _ (c .enum-told2 .given .1) (device .answers)
 
 note-requires : tie.Need-note-requires
@@ -100,11 +102,11 @@ returns-3 c = λ ts js₀ js vs n sound holds.
     let d = c .before .before .before .before .before .before .before .before .before .before .before in
     let r = d .before .before .before .before .before .before .before .before .before .before .before .before in
     let s = r .before .before .before .before .before .before .before .before .before .before .before .before .before .before .before in
-    let central = central-steps _ _ _ _ ts js₀ js vs _ _ _ _ sound holds _ n (r .before .before .before .before .before .before .arrive .ensures) (r .step .ensures) (omega (arith, slice-aggregate-step-2 (r .before))) in
+    let central = central-steps _ _ _ _ ts js₀ js vs _ _ _ _ sound holds (s .args .fault) n (r .before .before .before .before .before .before .arrive .ensures) (r .step .ensures) (omega (arith, slice-aggregate-step-2 (r .before))) in
     let answered = answer-put _ (d .before .before .before .before .before .before .before .outcome .given .1) central .1 in
-    let device = device-steps _ _ _ _ ts js₀ js vs _ _ _ _ sound holds _ n answered (d .before .before .before .before .arrive2 .ensures) (d .step2 .ensures) (omega (arith, r .before .before .before .before .before .memory .given, s .pre .1)) in
+    let device = device-steps _ _ _ _ ts js₀ js vs _ _ _ _ sound holds (s .args .fault) n answered (d .before .before .before .before .arrive2 .ensures) (d .step2 .ensures) (omega (arith, r .before .before .before .before .before .memory .given, s .pre .1)) in
     let noted = c .before .before .before .before .note .ensures vs (holds .numbers) in
-    exchanged _ _ _ _ ts js₀ js vs _ _ _ _ sound holds _ n _ (r .before .before .before .before .before .before .arrive .ensures) (omega (arith, slice-aggregate-step-2 (r .before))) central device (c .before .before .before .before .before .before .before .put .given .1) noted (s .pre .0) (all-bytes _ (r .before .before .before .before .before .before .before .before .before .before .before .before .slice-known .given))
+    exchanged _ _ _ _ ts js₀ js vs _ _ _ _ sound holds (s .args .fault) n _ (r .before .before .before .before .before .before .arrive .ensures) (omega (arith, slice-aggregate-step-2 (r .before))) central device (c .before .before .before .before .before .before .before .put .given .1) noted (s .pre .0) (all-bytes _ (r .before .before .before .before .before .before .before .before .before .before .before .before .slice-known .given))
 
 pub exchange-spec : {M : Type 1} → statement M
 exchange-spec =

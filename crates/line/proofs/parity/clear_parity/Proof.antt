@@ -1,11 +1,9 @@
 -- `clear_parity` meets its contract: each return is the case of `parityOff` that the tests before it leave.
-use mathlib.Core.List.{map}
 use mathlib.Core.Path.{sym, _∙_}
 use borrow.Author.Tests.{lt-ltb, le-ltb, not-true, not-false}
-use lib.ListN.{length-map}
 use Rattle.line.specs.Parity.{parityOff, sevenBits}
 use Rattle.line.specs.declared.answer.Refusal.the-variants.{Size, Parity}
-use Rattle.line.proofs.OverlayLaws.{wrote-refused, wrote-done}
+use Rattle.line.proofs.OverlayLaws.{wrote-refused, wrote-map}
 use borrow.Author.Needs.{needs}
 use Rattle.line.proofs.parity.clear_parity.Statement.{statement}
 use Rattle.line.proofs.parity.clear_parity.Tie as tie
@@ -33,9 +31,8 @@ returns-3 : tie.Need-returns-3
 unfolding parityOff
 returns-3 c =
     let d = c .before .before .before .before in
-    let a = d .before .before .before .before .before .args in
-    let all-pass = sym (d .before .is-even .ensures) ∙ not-false _ (d .if2 .left) in
-    wrote-done (map sevenBits (a .line .now)) _ _ _ (rw (le-ltb _ _ (d .before .before .if1 .left), all-pass)) (sym (length-map (a .line .now) sevenBits)) (c .before .before .take-parity .ensures)
+    let pass = sym (d .before .is-even .ensures) ∙ not-false _ (d .if2 .left) in
+    wrote-map sevenBits (d .before .before .before .before .before .args .line .now) _ _ (c .before .before .take-parity .ensures) (rw (le-ltb _ _ (d .before .before .if1 .left), pass))
 
 pub clear-parity-spec : {M : Type 1} → statement M
 clear-parity-spec =

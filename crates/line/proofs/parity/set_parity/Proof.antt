@@ -1,11 +1,9 @@
 -- `set_parity` meets its contract: each return is the case of `parityOn` that the tests before it leave.
-use mathlib.Core.List.{map}
 use mathlib.Core.Path.{sym, _∙_}
 use borrow.Author.Tests.{lt-ltb, le-ltb, not-true, not-false}
-use lib.ListN.{length-map}
 use Rattle.line.specs.Parity.{parityOn, withParity}
 use Rattle.line.specs.declared.answer.Refusal.the-variants.{Size, Parity}
-use Rattle.line.proofs.OverlayLaws.{wrote-refused, wrote-done}
+use Rattle.line.proofs.OverlayLaws.{wrote-refused, wrote-map}
 use borrow.Author.Needs.{needs}
 use Rattle.line.proofs.parity.set_parity.Statement.{statement}
 use Rattle.line.proofs.parity.set_parity.Tie as tie
@@ -33,9 +31,8 @@ returns-3 : tie.Need-returns-3
 unfolding parityOn
 returns-3 c =
     let d = c .before .before .before .before in
-    let a = d .before .before .before .before .before .args in
-    let all-pass = sym (d .before .are .ensures) ∙ not-false _ (d .if2 .left) in
-    wrote-done (map withParity (a .text .now)) _ _ _ (rw (le-ltb _ _ (d .before .before .if1 .left), all-pass)) (sym (length-map (a .text .now) withParity)) (c .before .before .put-parity .ensures)
+    let pass = sym (d .before .are .ensures) ∙ not-false _ (d .if2 .left) in
+    wrote-map withParity (d .before .before .before .before .before .args .text .now) _ _ (c .before .before .put-parity .ensures) (rw (le-ltb _ _ (d .before .before .if1 .left), pass))
 
 pub set-parity-spec : {M : Type 1} → statement M
 set-parity-spec =
