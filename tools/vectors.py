@@ -2,12 +2,13 @@
 """Writes crates/vectors/stdin and stdout: calls, and what document 01 says comes of each; and the same of the lines that crates/blocks reads.
 
 The answers come from a model of document 01 that is written here in Python, from the paper and not from the Rattle sources, and from the
-numbers that the paper prints, which are asserted below. The program `vectors` makes the calls on the proved functions; the gate compares.
+numbers that the paper prints, which are asserted below, as demand 3 is of every run. The program `vectors` makes the calls on the proved functions; the
+gate compares.
 
 A line of stdin is a call: a letter, then arguments with a space before each. Bytes are hex pairs; `*` and four hex digits behind a pair repeat it;
 no bytes are `-`. A number is bytes too, high first.
 """
-import os, random, re
+import functools, itertools, os, random, re, typing
 
 STX, ETX, EOT, ACK, LF, CR, NAK, ETB, ESC, RS, US = 2, 3, 4, 6, 0x0A, 0x0D, 0x15, 0x17, 0x1B, 0x1E, 0x1F
 ENDINGS = {"x": ETX, "b": ETB, "u": US}
@@ -285,6 +286,7 @@ def codec(rng):
     j(*([block(b"A" * 250, US)] * 8 + [b"\x02"])), j(*([block(b"A" * 250, US)] * 8 + [b"\xff" * 7])), j(block(b"A\r", ETX), b"\xff" * 7), j(block(b"A\r", ETX), b"\x02" * 7)
 
 
+@functools.cache
 def legal(info):
     try:
         judge(info)
@@ -393,8 +395,8 @@ def append(b, t, size):
 
 
 def digest(b):
-    """A long answer by its length and a sum that tells places apart."""
-    return "%d %d" % (len(b), sum((i + 1) * x for i, x in enumerate(b)) % 1000003)
+    """A long answer by its length and a sum that tells places apart; zeros at its end add nothing."""
+    return "%d %d" % (len(b), sum((i + 1) * x for i, x in enumerate(b.rstrip(b"\0"))) % 1000003)
 
 
 def k(b):
@@ -450,6 +452,12 @@ def journal(rng):
 LETTERS = b"0123456789ABCDEFGHIJKLMNOPQRSTUVWXYZabcdefghijklmnopqrstuvwxyz"
 
 
+def settings(password, retries):
+    """What is asked of the settings of either end."""
+    if len(password) > 6 or any(x not in LETTERS for x in password) or retries > 9:
+        raise Refused(9)
+
+
 class Central:
     """The central's steps over strings off the line, from Idle; a refusal leaves it as it is."""
 
@@ -457,11 +465,13 @@ class Central:
         self.password, self.longest, self.retries, self.pagers, self.journal = password, longest, retries, pagers, journal
         self.stage, self.failures, self.pending = "idle", 0, b""
 
+    def settings(self):
+        settings(self.password, self.retries)
+        if not 3 <= self.longest <= 2000 or len(self.pagers) > 1000 or any(x >= 10 ** 8 for x in self.pagers):
+            raise Refused(9)
+
     def step(self, line):
-        if len(self.password) > 6 or any(x not in LETTERS for x in self.password) or not 3 <= self.longest <= 2000 or self.retries > 9:
-            raise Refused(9)
-        if len(self.pagers) > 1000 or any(x >= 10 ** 8 for x in self.pagers):
-            raise Refused(9)
+        self.settings()
         stored = decode(self.journal)
         return bytes(map(with_parity, self.answer(line, stored)))
 
@@ -578,10 +588,8 @@ class Device:
     """The device's steps over replies off the line, from Opening."""
 
     def __init__(self, password, retries, job):
-        self.password, self.retries = password, retries
-        if len(password) > 6 or any(x not in LETTERS for x in password) or retries > 9:
-            raise Refused(9)
-        self.job = decode(job)
+        settings(password, retries)
+        self.password, self.retries, self.job = password, retries, decode(job)
         self.step, self.place, self.attempts = "opening", (0, 0), 1
 
     def string(self):
@@ -668,6 +676,161 @@ def device(rng):
         e(b"", rng.randint(0, 3), job, *(list(up) + [rng.choice(says[:6] + says[2:4] * 3) for _ in range(rng.randint(1, 9))]))
 
 
+# ── the run ──
+class Run(typing.NamedTuple):
+    """What a run takes: the job, the faults, the device's settings, the central's, how the journal's buffer begins and its size, the journal's length in
+    it, and the size of the verdict buffer."""
+    job: bytes
+    faults: tuple
+    password: bytes
+    retries: int
+    central: tuple
+    begin: bytes
+    size: int
+    length: int
+    room: int
+
+    def buffer(self):
+        return self.begin[:self.size].ljust(self.size, b"\0")
+
+    def journal(self):
+        return self.buffer()[:self.length]
+
+
+def arrives(string, fate):
+    """What arrives of a string: 0 all of it, 1 its first byte with bit 7 flipped, 2 nothing."""
+    return [string, bytes(x ^ 0x80 for x in string[:1]) + string[1:], b""][fate]
+
+
+def run(r):
+    """The number of transmissions, the verdicts, and the journal at the end."""
+    central = Central(*r.central, r.journal())
+    settings(r.password, r.retries)
+    central.settings()
+    if any(f > 8 for f in r.faults):
+        raise Refused(9)
+    if r.size != 32004:
+        raise Refused(1)
+    device = Device(r.password, r.retries, r.job)
+    if r.length > r.size:
+        raise Refused(7)
+    decode(central.journal)
+    if r.room != len(device.job):
+        raise Refused(1)
+    verdicts, sent = [5] * r.room, 0
+    while string := device.string():
+        fault = r.faults[sent] if sent < len(r.faults) else 0
+        sent += 1
+        given = device.take(arrives(central.step(arrives(string, fault // 3)), fault % 3))
+        if "=" in given:
+            t, v = given.split("=")
+            verdicts[int(t)] = int(v)
+    return sent, verdicts, central.journal
+
+
+def clean(r):
+    """The clean verdicts, and the clean journals after 0, 1, .. transactions: worked out with no run."""
+    password, longest, _, pagers = r.central
+    verdicts, journals = [], [r.journal()]
+    for t in decode(r.job):
+        book = journals[-1]
+        page = re.fullmatch(rb"([0-9]{1,8})\r[ -~]*\r", t)
+        fits = len(decode(book)) < 64 and len(book) + len(t) + 2 <= 32004
+        taken = r.password == password and len(t) <= longest and page and int(page[1]) in pagers and fits
+        verdicts.append(1 if taken else 2 if r.password == password else 5)
+        journals.append(encode(decode(book) + [t]) if taken else book)
+    return verdicts, journals
+
+
+def demand(r, sent, verdicts, journal):
+    """Demand 3 of a run that came to this, and the bound on its transmissions."""
+    job, (told, journals) = decode(r.job), clean(r)
+    k = sum(v in (1, 2) for v in verdicts)
+    assert verdicts[:k] == told[:k] and all(v in (3, 4, 5) for v in verdicts[k:k + 1]) and all(v == 5 for v in verdicts[k + 1:])
+    assert journal == journals[k] or verdicts[k:k + 1] == [3] and journal == journals[k + 1]
+    assert sent <= 3 + (r.retries + 1) * (sum(count_blocks(len(t)) for t in job) + 2)
+    # a clean run of the first transactions
+    for n in range(len(job) + 1):
+        assert run(r._replace(job=encode(job[:n]), faults=(), room=n))[1:] == (told[:n], journals[n])
+    # higher retry limits
+    password, longest, retries, pagers = r.central
+    for more, most in ((1, 0), (0, 1), (4, 5)):
+        higher = r._replace(retries=min(9, r.retries + more), central=(password, longest, min(9, retries + most), pagers))
+        assert run(higher)[1][:k] == verdicts[:k]
+
+
+def u(job, faults=(), password=b"", retries=3, host=b"", longest=2000, limit=3, pagers=(123,), begin=encode([]), size=32004, length=None, room=None):
+    """A run, its job given as transactions or as bytes; host and limit are the central's password and retry limit. The verdicts and the journal at its
+    end, or None where it is refused."""
+    assert len(faults) <= 64 and len(pagers) <= 8  # what the program has room for
+    length, room = len(begin) if length is None else length, len(job) if room is None else room
+    job = job if isinstance(job, bytes) else encode(job)
+    r = Run(job, tuple(faults), password, retries, (host, longest, limit, pagers), begin, size, length, room)
+    try:
+        sent, verdicts, journal = run(r)
+    except Refused as refusal:
+        verdicts, journal, said, result = [0] * room, b"", "refused %s" % refusal, None
+    else:
+        demand(r, sent, verdicts, journal)
+        said, result = "%d %d" % (sent, len(journal)), (verdicts, journal)
+    numbers = b"".join(x.to_bytes(4, "big") for x in pagers)
+    call("u", hexed(host), number(longest), number(limit), hexed(numbers), hexed(begin), hexed(password), number(retries), number(size), number(length),
+         number(room), hexed(bytes(faults)), hexed(job), answer=lambda: "%s %s %s" % (said, plain(verdicts), digest(journal + r.buffer()[len(journal):])))
+    return result
+
+
+def some_page(rng):
+    """A transaction: mostly one that the content rules take, some in several blocks."""
+    first = rng.choice((b"123",) * 12 + (b"7", b"0000123", b"99999999", b"124", b"", b"12a", b"000000123", b"9" * 249))
+    second = rng.choice((b"A", b"~", b" ", b"1")) * rng.choice((0, 1, 3, 3, 8, 30, 244, 245, 246, 300, 495, 496, 600, 1200, 1995))
+    return rng.choice((first + b"\r" + second + b"\r",) * 12 + (first + b"\r", first + b"\r" + second + b"\rX\r"))[-2000:]
+
+
+def some_faults(rng):
+    """Line faults: none, few or many, behind a logon that mostly succeeds; among them mostly those that the ends get over."""
+    rate, mild = rng.choice((0, 0.1, 0.2, 0.2, 0.5)), rng.choice((1, 8, 40))
+    some = [rng.choice((3,) * mild + (1, 1, 2, 2, 4, 5, 6, 7, 8)) if rng.random() < rate else 0 for _ in range(rng.randint(0, 30))]
+    return (rng.choice(([0, 0],) * 6 + ([6, 0, 3], [])) + some)[:30]
+
+
+def runs(rng):
+    # the paper's runs
+    job = [b"123\rABC\r", b"9\rX\r"]
+    for n in (0, 3, 9):
+        assert u(job, retries=n, limit=n) == ([1, 2], encode(job[:1]))
+        assert u(job, (0, 0, 1), retries=n, limit=n) == ([3, 5], encode(job[:1]))
+    assert u(job, (0, 0, 3), retries=0, limit=0) == ([4, 5], encode([]))
+    # each fault at each transmission, and the same one again and again
+    for retries, limit in ((0, 0), (1, 0), (0, 1), (2, 2)):
+        for n, fault in itertools.product(range(6), range(1, 9)):
+            u(job, (0,) * n + (fault,), retries=retries, limit=limit)
+    for retries, limit in ((9, 9), (9, 8), (8, 9)):
+        for n, times in itertools.product(range(6), (2, 3, 8, 9, 10)):
+            u(job, (0,) * n + (3,) * times, retries=retries, limit=limit)
+    # the largest jobs, and a journal in which the last does not fit
+    for t, times in ((b"123\r\r", 64), (b"123\r" + b"A" * 1993 + b"\r", 16)):
+        u([t] * times), u([t] * times, (0,) * 60 + (3,)), u([t] * times, begin=encode([b"\r"]))
+    # refusals, several at once among them
+    good, full = encode(job), encode([b"123\rABC\r"] * 64)
+    for fault, size, length, bad, room in itertools.product((8, 9), (32004, 32003), (4, 5), (good, good[:-1]), (2, 1)):
+        u(bad, (fault,), size=size, length=length, room=room)
+    for wrong in ({"password": b"abcdefg"}, {"password": b"a b"}, {"retries": 10}, {"host": b"abcdefg"}, {"host": b"-"}, {"longest": 2}, {"longest": 2001},
+                  {"limit": 10}, {"pagers": (5, 10 ** 8)}, {"faults": (0,) * 40 + (9,)}, {"faults": (255,)}, {"size": 32005}, {"size": 4}, {"size": 0},
+                  {"length": 0}, {"length": 3}, {"length": 32004}, {"length": 32005}, {"length": 65535}, {"begin": full[:-1]}, {"job": b""}, {"job": full[1:]},
+                  {"job": full + bytes(4)}, {"room": 0}, {"room": 3}, {"room": 66}):
+        u(**{"job": job, **wrong}), u(**{"job": good[1:], "room": 7, **wrong}), u(**{"job": job, "begin": full, **wrong})
+    # a buffer that holds other bytes behind the journal
+    for journal in (encode([]), good, full):
+        u(job, begin=journal + b"\xff" * 40, length=len(journal)), u(job, (0, 0, 3, 4), begin=journal + b"\xff" * 3, length=len(journal))
+    # all kinds: settings, equal and other passwords, journals with and without room
+    some = [encode([]), encode([b"123\rABC\r", b"7\r\r"])]
+    tight = [encode([b"A" * 1997 + b"\r"] * 15 + [b"A" * n + b"\r"]) for n in (400, 1980, 1987)] + [encode([b"\r"] * n) for n in (61, 62, 63, 64)]
+    for i in range(400):
+        password, host = rng.choice(((b"", b""), (b"q7", b"q7"), (b"abc123", b"abc123")) if i % 10 else ((b"", b"a"), (b"abc12", b"abc123"), (b"Z", b"z")))
+        u([some_page(rng) for _ in range(rng.choice((0, 1, 2, 2, 3, 3, 4, 5)))], some_faults(rng), password, rng.randint(0, 3), host,
+          rng.choice((2000, 2000, 500, 251) if i % 4 else (3, 12, 250)), rng.randint(0, 3), (123, 7, 99999999), rng.choice(some if i % 3 else tight))
+
+
 # ── the program blocks ──
 def listing(text):
     if len(text) > 1999:
@@ -700,6 +863,7 @@ def main():
     central(rng)
     device(rng)
     program = lines(rng)
+    runs(rng)
     crates = os.path.join(os.path.dirname(os.path.abspath(__file__)), "..", "crates")
     vectors = ["\n".join(rows + [""]).encode() for rows in (calls, answers)]
     for crate, files in (("vectors", vectors), ("blocks", program)):

@@ -28,7 +28,7 @@ use Rattle.device.specs.declared.state.Step.the-variants.{Opening, Stopped}
 use Rattle.device.specs.declared.state.Stepped as DeviceStepped
 use Rattle.device.specs.declared.state.Verdict.the-variants.{Unsent}
 use Rattle.call.specs.Call.{Played, Runs, called, fault, inputsOf, played}
-use Rattle.call.specs.Demand.{Demand3}
+use Rattle.call.specs.Demand.{Fair, Demand3}
 use Rattle.call.specs.Faults.{faulted}
 use Rattle.call.specs.Inner.{Begins, Plays, Ready, Sound, endsInRange, inputsIn, tested}
 use Rattle.call.specs.Run.{Inputs, final}
@@ -180,10 +180,10 @@ module _ (d : DeviceSettings.Settings) (c : CentralSettings.Settings) (pagers jo
 -- ── What a call owes ──
 
 -- a refusal leaves all memory
-pub runs-refused : {o : Outcome Played} (d : DeviceSettings.Settings) (c : CentralSettings.Settings) (pagers : List ℕ) (q : Refusal) (buffer verdicts : List ℕ) →
-    o ≡ refused (refusalNumber q) → Runs o d c pagers (Refused q) buffer buffer verdicts verdicts
-runs-refused d c pagers q buffer verdicts e =
-    record { answers = rw e; stored = rw e (overlay-none buffer); judged = rw e (overlay-none verdicts); demand = λ p h. absurd (false≢true (cc (e, h))) }
+pub runs-refused : {o : Outcome Played} (q : Refusal) (buffer verdicts : List ℕ) → o ≡ refused (refusalNumber q) → Runs o (Refused q) buffer buffer verdicts verdicts
+runs-refused {o} q buffer verdicts e =
+    let none : (p : Played) → o ≡ done p → ⊥ = λ p h. false≢true (cc (e, h)) in
+    record { answers = rw e; stored = rw e (overlay-none buffer); judged = rw e (overlay-none verdicts); fair = λ p h. absurd (none p h); demand = λ p h. absurd (none p h) }
 
 -- bytes as long as the memory lie over all of it
 overlay-whole : (a m : List ℕ) → length a ≡ length m → a ≡ overlay a m
@@ -197,17 +197,20 @@ done-same : {x y : Played} → done x ≡ done y → x ≡ y
 done-same e = cc
 
 -- a run that is done
-pub runs-done : {o : Outcome Played} (d : DeviceSettings.Settings) (c : CentralSettings.Settings) (pagers faults : List ℕ) (i : Inputs) (t : Totals) (buffer buffer′ verdicts verdicts′ : List ℕ) →
+pub runs-done : {o : Outcome Played} (faults : List ℕ) (i : Inputs) (t : Totals) (buffer buffer′ verdicts verdicts′ : List ℕ) →
     o ≡ done (played faults i) → Plays (final i (faulted i faults)) t buffer buffer′ verdicts′ → Legal i → length verdicts ≡ length (i .job) →
-    Runs o d c pagers (Done t) buffer buffer′ verdicts verdicts′
-runs-done d c pagers faults i t buffer buffer′ verdicts verdicts′ e plays legal h =
+    Runs o (Done t) buffer buffer′ verdicts verdicts′
+runs-done {o} faults i t buffer buffer′ verdicts verdicts′ e plays legal h =
     let proved = demand3 i legal in
+    let allowed = faults-fair i legal faults in
+    let same : (p : Played) → o ≡ done p → played faults i ≡ p = λ p q. done-same (sym e ∙ q) in
     let e′ = final i (faulted i faults) in
     let numbers = map verdictNumber (e′ .verdicts) in
-    let each : length (e′ .verdicts) ≡ length (i .job) = proved .bad-line (faulted i faults) (faults-fair i legal faults) .one-each in
+    let each : length (e′ .verdicts) ≡ length (i .job) = proved .bad-line (faulted i faults) allowed .one-each in
     record {
       answers = rw (e, plays .totals);
       stored = rw e (plays .stored);
       judged = rw e (plays .numbers ∙ overlay-whole numbers verdicts (length-map (e′ .verdicts) verdictNumber ∙ each ∙ sym h));
-      demand = λ p q. let same : played faults i ≡ p = done-same (sym e ∙ q) in subst (λ (x : Played). Demand3 (x .inputs)) same proved;
+      fair = λ p q. subst (λ (x : Played). Fair (x .inputs) (x .damages)) (same p q) allowed;
+      demand = λ p q. subst (λ (x : Played). Demand3 (x .inputs)) (same p q) proved;
     }

@@ -16,9 +16,9 @@ use Rattle.central.specs.declared.state.Settings as CentralSettings
 use Rattle.device.specs.Reaction.{verdictNumber}
 use Rattle.device.specs.Step as DeviceStep
 use Rattle.device.specs.declared.state.Settings as DeviceSettings
-use Rattle.call.specs.Demand.{Demand3}
+use Rattle.call.specs.Demand.{Fair, Demand3}
 use Rattle.call.specs.Faults.{faulted}
-use Rattle.call.specs.Run.{Inputs, Outcome as Result, run}
+use Rattle.call.specs.Run.{Inputs, Damages, Outcome as Result, run}
 use Rattle.call.specs.declared.run.Ran.{Ran}
 use Rattle.call.specs.declared.run.Ran.the-variants.{Done, Refused}
 use Rattle.call.specs.declared.run.Totals.{Totals}
@@ -34,14 +34,18 @@ inputsOf d c pagers job journal =
       journal = journal;
     }
 
--- the inputs of a run, and what it comes to
+-- a run that is played: its inputs, and the damage on the line
 pub record Played : Type 0 where
   pub inputs : Inputs
-  pub result : Result
+  pub damages : Damages
 
--- a run of the inputs at the faults read as damage
+-- the run of the inputs at the faults read as damage
 abbrev pub played : List ℕ → Inputs → Played
-played faults i = record { inputs = i; result = run i (faulted i faults) }
+played faults i = record { inputs = i; damages = faulted i faults }
+
+-- what it comes to
+abbrev pub resultOf : Played → Result
+resultOf p = run (p .inputs) (p .damages)
 
 -- a fault is 0 to 8
 abbrev pub fault : ℕ → Bool
@@ -64,11 +68,12 @@ ranAs (Refused r) = refused (refusalNumber r)
 
 -- the totals of a run
 abbrev pub totalsOf : Played → Totals
-totalsOf p = record { transmissions = p .result .transmissions; journal = length (encode (p .result .journal)) }
+totalsOf p = record { transmissions = resultOf p .transmissions; journal = length (encode (resultOf p .journal)) }
 
--- what a run owes: its totals, the journal's buffer and the verdict buffer; and where it is done, the whole of demand 3 of its inputs
-pub record Runs (o : Outcome Played) (d : DeviceSettings.Settings) (c : CentralSettings.Settings) (pagers : List ℕ) (r : Ran) (buffer buffer′ verdicts verdicts′ : List ℕ) : Type 0 where
+-- what a run owes: its totals, the journal's buffer and the verdict buffer; and where it is done, that its damage is fair, and the whole of demand 3 of its inputs
+pub record Runs (o : Outcome Played) (r : Ran) (buffer buffer′ verdicts verdicts′ : List ℕ) : Type 0 where
   pub answers : ranAs r ≡ mapDone totalsOf o
-  pub stored : buffer′ ≡ overlay (output (mapDone (λ p. encode (p .result .journal)) o)) buffer
-  pub judged : verdicts′ ≡ overlay (output (mapDone (λ p. map verdictNumber (p .result .verdicts)) o)) verdicts
+  pub stored : buffer′ ≡ overlay (output (mapDone (λ p. encode (resultOf p .journal)) o)) buffer
+  pub judged : verdicts′ ≡ overlay (output (mapDone (λ p. map verdictNumber (resultOf p .verdicts)) o)) verdicts
+  pub fair : (p : Played) → o ≡ done p → Fair (p .inputs) (p .damages)
   pub demand : (p : Played) → o ≡ done p → Demand3 (p .inputs)

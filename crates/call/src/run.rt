@@ -42,7 +42,7 @@ pub fn run(
     faults: &[u8],
     verdicts: &mut [u8],
 ) -> Ran
-    ensures { λ r. ⌜ Runs (called device central (now (pagers .entry)) (now (job .entry)) (now (journal .entry)) length (now (faults .entry)) (ListN.length (now (verdicts .entry)))) device central (now (pagers .entry)) r (now (journal .entry)) (now (journal .exit)) (now (verdicts .entry)) (now (verdicts .exit)) ⌝ }
+    ensures { λ r. ⌜ Runs (called device central (now (pagers .entry)) (now (job .entry)) (now (journal .entry)) length (now (faults .entry)) (ListN.length (now (verdicts .entry)))) r (now (journal .entry)) (now (journal .exit)) (now (verdicts .entry)) (now (verdicts .exit)) ⌝ }
 {
     let tested = test(job, device, central, pagers, journal, length, faults);
     match tested {

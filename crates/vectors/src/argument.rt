@@ -31,6 +31,13 @@ pub(crate) fn number(call: &[u8], index: usize) -> usize
     wide(pair[0], pair[1])
 }
 
+// The number that the word at an index is, as the size of a part of the memory.
+pub(crate) fn size(call: &[u8], index: usize, memory: &[u8]) -> usize
+    ensures { λ r. ⌜ Counts r (now (memory .entry)) ⌝ }
+{
+    io::count(number(call, index) as isize, memory)
+}
+
 // The bytes that the word at an index is, at the start of the output, as far as it has room.
 pub(crate) fn bytes(call: &[u8], index: usize, out: &mut [u8]) -> usize
     ensures { λ r. ⌜ Counts r (now (out .exit)) ⌝ }

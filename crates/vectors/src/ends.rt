@@ -23,7 +23,7 @@ ghost use lib.ListN.{length};
 ghost use Rattle.io.specs.Counts.{Counts};
 
 // Which argument the journal is: the last before the strings.
-const JOURNAL: usize = 5;
+pub(crate) const JOURNAL: usize = 5;
 
 // Which argument the job is: the last before the replies.
 const JOB: usize = 3;
@@ -65,10 +65,8 @@ fn hear(
     journal: &mut [u8],
     answer: &mut [u8],
 ) -> central::Stepped {
-    let mut numbers = [0; 32];
-    let n = bytes(call, 4, &mut numbers);
     let mut pagers = [0; 8];
-    let listed = read_pagers(&numbers[..n], &mut pagers);
+    let listed = list_pagers(call, &mut pagers);
     let mut string = [0; 512];
     let k = bytes(call, index, &mut string);
     if is_drop(&string[..k]) {
@@ -95,22 +93,32 @@ fn is_drop(string: &[u8]) -> bool {
     string[0] == 0xFF && string[1] == 0xFF
 }
 
-fn central_settings(call: &[u8]) -> central::Settings {
+// The central's settings: the first three arguments.
+pub(crate) fn central_settings(call: &[u8]) -> central::Settings {
     central::Settings {
-        password: password(call),
+        password: password(call, 1),
         longest: number(call, 2),
         retries: number(call, 3),
     }
 }
 
-// The password that the first argument is: where it is too long, its length says so.
-fn password(call: &[u8]) -> Password {
+// The password that the word at an index is: where it is too long, its length says so.
+fn password(call: &[u8], index: usize) -> Password {
     let mut text = [0; 8];
-    let length = bytes(call, 1, &mut text);
+    let length = bytes(call, index, &mut text);
     Password {
         characters: [text[0], text[1], text[2], text[3], text[4], text[5]],
         length,
     }
+}
+
+// The pager list that the fourth argument is.
+pub(crate) fn list_pagers(call: &[u8], pagers: &mut [u32]) -> usize
+    ensures { λ r. ⌜ Counts r (now (pagers .exit)) ⌝ }
+{
+    let mut numbers = [0; 32];
+    let n = bytes(call, 4, &mut numbers);
+    read_pagers(&numbers[..n], pagers)
 }
 
 // Numbers of four bytes each, as far as there is room for them.
@@ -196,7 +204,7 @@ pub(crate) fn put_play(call: &[u8], out: &mut [u8]) -> usize
     let n = bytes(call, JOB, &mut space);
     let job = &space[..n];
     let mut string = [0; 256];
-    let begun = device::step::start(device_settings(call), job, &mut string);
+    let begun = device::step::start(device_settings(call, 1, 2), job, &mut string);
     let outcome = begun.outcome;
     let state = begun.state;
     let at = put_outcome(outcome, &string, out, 0);
@@ -206,10 +214,15 @@ pub(crate) fn put_play(call: &[u8], out: &mut [u8]) -> usize
     }
 }
 
-fn device_settings(call: &[u8]) -> device::Settings {
+// The entry device's settings, by the indices of the words that they are.
+pub(crate) fn device_settings(
+    call: &[u8],
+    password_at: usize,
+    retries_at: usize,
+) -> device::Settings {
     device::Settings {
-        password: password(call),
-        retries: number(call, 2),
+        password: password(call, password_at),
+        retries: number(call, retries_at),
     }
 }
 
@@ -242,7 +255,7 @@ fn take(
 ) -> device::Stepped {
     let mut reply = [0; 512];
     let n = bytes(call, index, &mut reply);
-    device::step::step(state, device_settings(call), job, &reply[..n], string)
+    device::step::step(state, device_settings(call, 1, 2), job, &reply[..n], string)
 }
 
 fn put_taken(stepped: device::Stepped, string: &[u8], out: &mut [u8], at: usize) -> usize

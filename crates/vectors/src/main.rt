@@ -3,8 +3,9 @@
 // them, and says how a call is written.
 mod answer;
 mod argument;
-mod call;
+mod calls;
 mod ends;
+mod runs;
 
 use line::character::LF;
 use line::memory::find;
@@ -40,7 +41,7 @@ fn run(input: &[u8]) {
 // The answer to one call, on a line.
 fn print_answer(line: &[u8]) {
     let mut out = io::large_buffer();
-    let at = call::put_answer(line, &mut out);
+    let at = calls::put_answer(line, &mut out);
     let end = answer::put_text(&[LF], &mut out, at);
     io::write_all(libc::STDOUT_FILENO, answer::start(&out, end));
 }

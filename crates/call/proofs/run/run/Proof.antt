@@ -27,7 +27,7 @@ same-length c = search needs
 returns : tie.Need-returns
 returns c =
     let d = c .before .before in
-    runs-refused _ _ _ Size _ _ (call-short _ _ _ _ _ _ _ _ _ (counted d) (c .if1 .taken))
+    runs-refused Size _ _ (call-short _ _ _ _ _ _ _ _ _ (counted d) (c .if1 .taken))
 
 begin-requires : tie.Need-begin-requires
 begin-requires c κs =
@@ -49,7 +49,7 @@ returns-2 c =
     let d = c .before .before .before .before .before .before .before .before .before in
     let size = c .before .before .before .before .before .before .before .if1 .left in
     let ready = call-ready _ _ _ _ _ _ _ 0 _ (counted d) {verdicts = a .verdicts .now} size in
-    runs-done _ _ _ (a .faults .now) _ _ _ _ _ _ (call-done _ _ _ _ _ _ _ _ _ (counted d) size) (c .before .before .before .before .begin .ensures) (sound-legal _ _ _ _ _ (ready .sound) _) (ready .one-each)
+    runs-done (a .faults .now) _ _ _ _ _ _ (call-done _ _ _ _ _ _ _ _ _ (counted d) size) (c .before .before .before .before .begin .ensures) (sound-legal _ _ _ _ _ (ready .sound) _) (ready .one-each)
 
 same-length-4 : tie.Need-same-length-4
 same-length-4 c = search needs
@@ -58,7 +58,7 @@ returns-3 : tie.Need-returns-3
 returns-3 c =
     let a = c .before .before .before .before .before .before .before .before .before .before .args in
     let told = ap writtenAs (c .before .tested2 .given .1) in
-    runs-refused _ _ _ _ _ _ (call-refused (a .device) (a .central) (a .pagers .now) (a .job .now) (a .journal .now) (a .length) (a .faults .now) (length (a .verdicts .now)) _ (sym (c .before .before .before .test .ensures) ∙ told))
+    runs-refused _ _ _ (call-refused (a .device) (a .central) (a .pagers .now) (a .job .now) (a .journal .now) (a .length) (a .faults .now) (length (a .verdicts .now)) _ (sym (c .before .before .before .test .ensures) ∙ told))
 
 pub run-spec : {M : Type 1} → statement M
 run-spec =

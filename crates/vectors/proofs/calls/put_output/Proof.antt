@@ -4,8 +4,8 @@ use native.Mathlib.Omega.{arith}
 use borrow.Author.Needs.{needs}
 use lib.ListN.{length, take}
 use lib.Seq.{length-front, length-take-le}
-use Rattle.vectors.proofs.call.put_output.Statement.{statement}
-use Rattle.vectors.proofs.call.put_output.Tie as tie
+use Rattle.vectors.proofs.calls.put_output.Statement.{statement}
+use Rattle.vectors.proofs.calls.put_output.Tie as tie
 
 large-buffer-requires : tie.Need-large-buffer-requires
 large-buffer-requires c κs = search needs

@@ -13,6 +13,7 @@ use crate::argument::letter;
 use crate::argument::number;
 use crate::ends::put_conversation;
 use crate::ends::put_play;
+use crate::runs::put_run;
 use block::Ending;
 use block::Reading;
 use block::Reassembled;
@@ -41,6 +42,7 @@ pub(crate) fn put_answer(call: &[u8], out: &mut [u8]) -> usize
         b'k' => put_check(text, out),
         b'd' => put_conversation(call, out),
         b'e' => put_play(call, out),
+        b'u' => put_run(call, text, out),
         b'n' => put_bytes(journal::record::newest(text, number(call, 1)), out, 0),
         b'o' => put_bytes(journal::record::oldest(text, number(call, 1)), out, 0),
         _ => put_output(call, text, out),

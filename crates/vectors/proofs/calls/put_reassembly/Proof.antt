@@ -3,8 +3,8 @@ use mathlib.Core.Path.{_≡_}
 use Prim.Native.Nat.{_≤_, _-_}
 use borrow.Author.Needs.{needs}
 use lib.ListN.{length}
-use Rattle.vectors.proofs.call.put_reassembly.Statement.{statement}
-use Rattle.vectors.proofs.call.put_reassembly.Tie as tie
+use Rattle.vectors.proofs.calls.put_reassembly.Statement.{statement}
+use Rattle.vectors.proofs.calls.put_reassembly.Tie as tie
 
 abbrev Inv-loop : tie.InvT-loop
 Inv-loop call out₀ memory₀ count state₀ at₀ index₀ out memory state at index = (length out ≡ length out₀) × (at ≤ length out) × (length memory ≡ 2000)
