@@ -1,5 +1,4 @@
 pub mod FrameLaws
-pub mod ListingLaws
 pub mod ReassemblyLaws
 pub mod SegmentLaws
 pub mod SegmentationLaws

@@ -1,6 +1,6 @@
 -- Laws of the segmentation used here: it is a legal one, how many blocks it has, which each of them is, and how long they are one after the other.
 use mathlib.Core.Bool.{Bool, true, false, and-eq-true-iff}
-use mathlib.Core.List.{List, [], _∷_, _++_, append-assoc, append-nil}
+use mathlib.Core.List.{List, [], _∷_, _++_, flatMap, append-nil}
 use mathlib.Core.Path.{_≡_, refl, sym, ap, _∙_}
 use Prim.Native.Nat.{ℕ, zero, suc, _+_, _*_, _-_, _≤_, _<_, min}
 use native.Mathlib.Nat.{not-suc-le-zero, le-of-suc-le-suc}
@@ -9,13 +9,14 @@ use native.Mathlib.Omega.{arith}
 use borrow.Author.Tests.{le-leb, leb-true}
 use lib.Dec.{eqb, leb, eqb·zero-suc, eqb·suc-suc}
 use lib.ListN.{length, getD, take, drop, length-append, length-take, length-drop, take-append-drop}
-use lib.Seq.{take-suc, take-all, take-take, drop-drop, length-take-le}
+use lib.Seq.{take-all, take-take, drop-drop, length-take-le}
 use Rattle.line.specs.Character.{textual}
 use Rattle.line.specs.Test.{if_then_else_, all}
 use Rattle.line.specs.Transaction.{Transaction, endsInCR}
 use Rattle.line.proofs.AllLaws.{all-append}
+use Rattle.line.proofs.FlatLaws.{flat-append, flat-snoc}
 use Rattle.line.proofs.TransactionLaws.{transaction-legal, ends-append}
-use Rattle.block.specs.Block.{Segment, right, agrees}
+use Rattle.block.specs.Block.{right, agrees}
 use Rattle.block.specs.Segmentation.{segment, continues, Joins, last, more, LegalSegmentation, blockCount, between, segments, segmentation, segmentAt, segmentBlock, blocksOf}
 use Rattle.block.specs.declared.frame.Ending.the-variants.{Etx}
 use Rattle.block.proofs.FrameLaws.{block-length}
@@ -30,6 +31,10 @@ segments-count (suc (suc k)) t = ap suc (segments-count (suc k) (drop 250 t))
 -- the number of blocks is the length divided by 250, rounded up
 pub segmentation-count : (t : List ℕ) → length (segmentation t) ≡ blockCount (length t)
 segmentation-count t = segments-count (blockCount (length t)) t
+
+-- and those are all
+pub segmentation-whole : (t : List ℕ) (i : ℕ) → blockCount (length t) ≤ i → take i (segmentation t) ≡ segmentation t
+segmentation-whole t i h = take-all i (segmentation t) (rw (segmentation-count t) h)
 
 -- ── Which segment is at which place ──
 
@@ -71,6 +76,10 @@ segment-length t i h = rw (segment-at t i h, length-take, length-drop)
 -- a block has at most 256 characters
 pub segment-fits : (t : List ℕ) (i : ℕ) → i < blockCount (length t) → length (segmentAt t i .info) + 6 ≤ 256
 segment-fits t i h = rw (segment-length t i h) (omega arith)
+
+-- counted by its characters
+pub segment-short : (t : List ℕ) (i : ℕ) → i < blockCount (length t) → length (segmentBlock (segmentAt t i)) ≤ 256
+segment-short t i h = rw (block-length (segmentAt t i .info) (segmentAt t i .ending)) (segment-fits t i h)
 
 -- the first n members, where n is cut to the length
 take-min : {A : Type 0} (n : ℕ) (xs : List A) → take (min n (length xs)) xs ≡ take n xs
@@ -130,27 +139,11 @@ segmentation-legal t r =
     let (k, count, _, full, fits) = counted (length t) 0 (omega arith) in
     record { transaction = r; joins = rw count (segments-cut k t full fits text end) }
 
--- ── What is refused ──
-
 -- ── The blocks one after the other ──
-
--- the blocks of two lists of segments joined
-blocks-append : (gs hs : List Segment) → blocksOf (gs ++ hs) ≡ blocksOf gs ++ blocksOf hs
-unfolding blocksOf
-blocks-append [] hs = refl
-blocks-append (g ∷ gs) hs = rw (blocks-append gs hs, append-assoc)
-
--- one block more
-pub blocks-snoc : (t : List ℕ) (i : ℕ) → i < blockCount (length t) →
-    blocksOf (take (i + 1) (segmentation t)) ≡ blocksOf (take i (segmentation t)) ++ segmentBlock (segmentAt t i)
-unfolding blocksOf
-blocks-snoc t i h =
-    let place : i < length (segmentation t) = rw (segmentation-count t) h in
-    rw (add-one, take-suc (segmentation t) i (segment [] Etx) place, blocks-append, append-nil)
 
 -- blocks have six characters each besides the information
 segments-length : (k : ℕ) (t : List ℕ) → length t ≤ 250 * k → length (blocksOf (segments k t)) ≡ length t + 6 * k
-unfolding segments blocksOf
+unfolding segments flatMap
 segments-length zero t fits = omega arith
 segments-length (suc zero) t fits = rw append-nil (block-length t Etx)
 segments-length (suc (suc k)) t fits =
@@ -165,7 +158,8 @@ blocks-length t = segments-length (blockCount (length t)) t (omega arith)
 pub blocks-fit : (t : List ℕ) (i : ℕ) → i < blockCount (length t) →
     length (blocksOf (take i (segmentation t))) + (length (segmentAt t i .info) + 6) ≤ length t + 6 * blockCount (length t)
 blocks-fit t i h =
-    let whole = blocks-append (take (i + 1) (segmentation t)) (drop (i + 1) (segmentation t)) in
-    let sizes = rw (take-append-drop, blocks-snoc t i h) at whole in
+    let place : i < length (segmentation t) = rw (segmentation-count t) h in
+    let whole = flat-append segmentBlock (take (i + 1) (segmentation t)) (drop (i + 1) (segmentation t)) in
+    let sizes = rw (take-append-drop, flat-snoc segmentBlock (segmentation t) i (segment [] Etx) place) at whole in
     let lengths = simp (length-append, block-length) at (ap length sizes) in
     rw (← blocks-length t) (omega arith)

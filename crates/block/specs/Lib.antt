@@ -1,5 +1,4 @@
 pub mod Block
 pub mod Checksum
-pub mod Listing
 pub mod Segmentation
 pub mod Reassembly

@@ -1,6 +1,6 @@
 -- Cutting a transaction into blocks: which ways are legal, and the one that is used here.
 use mathlib.Core.Bool.{Bool, true, false}
-use mathlib.Core.List.{List, [], _∷_, _++_}
+use mathlib.Core.List.{List, [], _∷_, _++_, flatMap}
 use mathlib.Core.Path.{_≡_}
 use Prim.Native.Nat.{ℕ, zero, suc, _+_, _*_, _/_, _≤_}
 use lib.Dec.{leb, ltb}
@@ -70,9 +70,8 @@ writeSegment t i room =
     else ofTransaction t (done (segmentBlock (segmentAt t i)))
 
 -- blocks one after the other
-unfoldable pub blocksOf : List Segment → List ℕ
-blocksOf [] = []
-blocksOf (g ∷ gs) = segmentBlock g ++ blocksOf gs
+abbrev pub blocksOf : List Segment → List ℕ
+blocksOf gs = flatMap segmentBlock gs
 
 -- all blocks of a transaction into a buffer of so many bytes: 1 where it is short, by the length given: information plus 6 a block; 2, 3 and 6 by the information
 unfoldable pub writeSegments : List ℕ → ℕ → Outcome (List ℕ)

@@ -2,7 +2,6 @@
 // blocks and joining it again.
 pub mod checksum;
 pub mod frame;
-pub mod listing;
 pub mod reassembly;
 pub mod segmentation;
 

@@ -70,7 +70,7 @@ fn segment_length(length: usize, index: usize) -> usize
 }
 
 // The block at an index, at the start of the output.
-pub(crate) fn put_segment(info: &[u8], index: usize, out: &mut [u8]) -> usize
+fn put_segment(info: &[u8], index: usize, out: &mut [u8]) -> usize
     requires { ⌜ (index < blockCount (length (now info))) × (length (segmentAt (now info) index .info) + 6 ≤ length (now out)) ⌝ }
     ensures { λ r. ⌜ Laid (segmentBlock (segmentAt (now (info .entry)) index)) r (now (out .entry)) (now (out .exit)) ⌝ }
 {

@@ -17,8 +17,8 @@ use Rattle.line.specs.Test.{if_then_else_, before}
 use Rattle.line.proofs.LaidLaws.{laid-start}
 use Rattle.blocks.specs.Lines.{taken, ended, stays, Took}
 use Rattle.blocks.specs.declared.Filled.{Filled}
-use Rattle.block.specs.Listing.{listing}
-use Rattle.line.proofs.AllLaws.{before-within}
+use Rattle.listing.specs.Listing.{listing}
+use Rattle.line.proofs.AllLaws.{find-within}
 
 -- ── Where a member stands ──
 
@@ -62,7 +62,7 @@ taken-kept room k p (c ∷ text) h = go (eqb c LF) refl (taken-kept room (take r
 module _ (piece : List ℕ) (at end : ℕ) (found : end ≡ at + before LF (drop at piece)) where
   -- it is within the piece
   pub found-within : at ≤ length piece → (at ≤ end) × (end ≤ length piece)
-  found-within h = omega (arith, before-within LF (drop at piece), length-drop at piece)
+  found-within h = omega (arith, find-within LF piece at h)
 
   -- the characters up to it are kept
   pub taken-part : (room : ℕ) (k p : List ℕ) → length k ≤ room → taken room k p (drop at piece) ≡ taken room (take room (k ++ take (end - at) (drop at piece))) p (drop end piece)

@@ -6,7 +6,7 @@ use lib.Dec.{eqb, ltb}
 use lib.ListN.{length, take}
 use Rattle.line.specs.Character.{LF}
 use Rattle.line.specs.Test.{if_then_else_}
-use Rattle.block.specs.Listing.{listing}
+use Rattle.listing.specs.Listing.{listing}
 use Rattle.blocks.specs.declared.Filled.{Filled}
 
 -- what is kept of the present line and what is printed, once a text has been read behind them: LF prints the line, any other character is kept while there is room

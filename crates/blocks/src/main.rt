@@ -1,18 +1,18 @@
 // Reads lines from standard input and prints the blocks of each. What a line prints is
-// `block::listing::list`; this program only moves bytes, in large pieces.
-use block::listing::ROOM;
-use block::listing::list;
+// `listing::list`; this program only moves bytes, in large pieces.
 use libc::STDIN_FILENO;
 use libc::STDOUT_FILENO;
 use line::Written;
 use line::character::LF;
 use line::memory::copy;
 use line::memory::find;
+use listing::ROOM;
+use listing::list;
 ghost use mathlib.Core.List.{List, _++_};
 ghost use Prim.Native.Nat.{ℕ, _≤_};
 ghost use lib.ListN.{length, take};
 ghost use Rattle.line.specs.Answer.{Laid};
-ghost use Rattle.block.specs.Listing.{listing};
+ghost use Rattle.listing.specs.Listing.{listing};
 ghost use Rattle.blocks.specs.Lines.{Took, Within, nothing, stays};
 
 // The characters of a line that are kept. A line of so many is too long already, however many more

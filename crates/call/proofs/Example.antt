@@ -13,7 +13,7 @@ use Rattle.block.specs.Checksum.{sum, checkCharacters}
 use Rattle.block.specs.Segmentation.{segments}
 use Rattle.journal.specs.Encoding.{recordOf, recordsOf}
 use Rattle.reply.specs.Reading.{restAfter, requests, accepts, codeRead, textRead, replyRead}
-use Rattle.central.specs.Content.{numberFrom, firstField, fieldCount, listed, admits}
+use Rattle.admission.specs.Content.{numberFrom, firstField, fieldCount, listed, admits}
 use Rattle.central.specs.Hearing.{recognized, heard}
 use Rattle.central.specs.Reaction.{reacts}
 use Rattle.device.specs.Bound.{jobBlocks}

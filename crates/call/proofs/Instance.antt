@@ -16,7 +16,7 @@ use Rattle.block.specs.Block.{Segment}
 use Rattle.block.specs.Segmentation.{segment, Joins, last, more, segmentation}
 use Rattle.block.specs.declared.frame.Ending.the-variants.{Etx}
 use Rattle.journal.specs.Encoding.{allLegal}
-use Rattle.central.specs.Content.{admits}
+use Rattle.admission.specs.Content.{admits}
 use Rattle.call.specs.Clean.{meets, stored, judged, matching, cleanVerdicts, cleanJournal}
 use Rattle.call.specs.Run.{Inputs}
 use Rattle.call.proofs.Messages.{Blks, Rules, Limits}

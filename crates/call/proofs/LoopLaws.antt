@@ -27,7 +27,7 @@ use Rattle.journal.proofs.EncodingLaws.{encode-decode}
 use Rattle.journal.proofs.RecordLaws.{encode-length}
 use Rattle.journal.specs.Append.{decodeIn}
 use Rattle.journal.specs.Encoding.{Journal, allLegal, encode, recordsOf}
-use Rattle.central.specs.Content.{admits}
+use Rattle.admission.specs.Content.{admits}
 use Rattle.central.specs.Hearing.{Heard, heard, silence, noise, hello, bye, misfit, logon, block}
 use Rattle.central.specs.Reaction.{Rules, Central, Reaction, fails, takes, reacts}
 use Rattle.central.specs.Step as CentralStep

@@ -4,7 +4,7 @@ use mathlib.Core.List.{List, [], _∷_, _++_, foldl}
 use Prim.Native.Nat.{ℕ}
 use lib.ListN.{length, take, replicate}
 use Rattle.line.specs.Test.{if_then_else_, same}
-use Rattle.central.specs.Content.{admits}
+use Rattle.admission.specs.Content.{admits}
 use Rattle.central.specs.Reaction.{Rules}
 use Rattle.device.specs.declared.state.Verdict.{Verdict}
 use Rattle.device.specs.declared.state.Verdict.the-variants.{Accepted, Rejected, Unsent}

@@ -43,10 +43,14 @@ pub record Sound (d : DeviceSettings.Settings) (c : CentralSettings.Settings) (p
 
 -- ── A string on the line ──
 
+-- what arrives of a string by its fate: 0 whole, 1 garbled, 2 lost
+abbrev pub arrives : ℕ → List ℕ → List ℕ
+arrives fate bytes = hit (damage fate bytes) bytes
+
 -- so many bytes at the start of the memory are what arrives of the bytes
 pub record Arrives (fate : ℕ) (bytes : List ℕ) (n : ℕ) (memory : List ℕ) : Type 0 where
   pub inside : n ≤ length memory
-  pub arrived : take n memory ≡ hit (damage fate bytes) bytes
+  pub arrived : take n memory ≡ arrives fate bytes
 
 -- ── One transmission ──
 

@@ -7,13 +7,15 @@ use device::step::step as step_device;
 use line::Written;
 ghost use mathlib.Core.List.{List, map};
 ghost use mathlib.Core.Path.{_≡_};
-ghost use Prim.Native.Nat.{ℕ, _+_, _<_};
-ghost use lib.ListN.{length};
+ghost use Prim.Native.Nat.{ℕ, _+_, _<_, _≤_};
+ghost use lib.ListN.{length, take};
+ghost use Rattle.central.specs.Step as CentralStep;
 ghost use Rattle.device.specs.Reaction.{verdictNumber};
+ghost use Rattle.device.specs.Step as DeviceStep;
 ghost use Rattle.device.specs.declared.state.Verdict as Verdicts;
 ghost use Rattle.call.specs.Call.{inputsOf};
 ghost use Rattle.call.specs.Faults.{damages};
-ghost use Rattle.call.specs.Inner.{Exchanges, Holds, Sound, endsOf};
+ghost use Rattle.call.specs.Inner.{Exchanges, Holds, Sound, arrives, endsOf};
 ghost use Rattle.call.specs.Run as Run;
 
 // Both ends between two transmissions, and the length of the string that the device has put out.
@@ -41,22 +43,22 @@ pub(crate) fn exchange(
     let count = ends.count;
     let desk = ends.device;
     let host = ends.central;
-    let heard = arrive(fault / 3, count, memory);
     let mut answer = [0u8; 256];
-    let reacted = step_central(
+    let reacted = hear(
         host,
         central,
         pagers,
         journal,
-        &memory[..heard],
+        fault / 3,
+        count,
+        memory,
         &mut answer,
     );
     let outcome = reacted.outcome;
     let Written::Count(length) = outcome else {
         return ends;
     };
-    let read = arrive(fault % 3, length, &mut answer);
-    let moved = step_device(desk, device, job, &answer[..read], memory);
+    let moved = read(desk, device, job, fault % 3, length, &mut answer, memory);
     let put = moved.outcome;
     let Written::Count(next) = put else {
         return ends;
@@ -70,6 +72,42 @@ pub(crate) fn exchange(
         central: host,
         count: next,
     }
+}
+
+// The central's step over what arrives of the string of this length at the start of the memory.
+fn hear(
+    host: central::State,
+    settings: central::Settings,
+    pagers: &[u32],
+    journal: &mut [u8],
+    fate: u8,
+    count: usize,
+    memory: &mut [u8],
+    answer: &mut [u8],
+) -> central::Stepped
+    requires { ⌜ count ≤ length (now memory) ⌝ }
+    ensures { λ r. ⌜ CentralStep.Steps (CentralStep.stepped host settings (now (pagers .entry)) (now (journal .entry)) (arrives fate (take count (now (memory .entry)))) (length (now (answer .entry)))) host r (now (journal .entry)) (now (journal .exit)) (now (answer .entry)) (now (answer .exit)) ⌝ }
+{
+    let heard = arrive(fate, count, memory);
+    step_central(host, settings, pagers, journal, &memory[..heard], answer)
+}
+
+// The device's step over what arrives of the answer of this length: it puts its next string in the
+// memory.
+fn read(
+    desk: device::State,
+    settings: device::Settings,
+    job: &[u8],
+    fate: u8,
+    count: usize,
+    answer: &mut [u8],
+    memory: &mut [u8],
+) -> device::Stepped
+    requires { ⌜ count ≤ length (now answer) ⌝ }
+    ensures { λ r. ⌜ DeviceStep.Steps (DeviceStep.stepped desk settings (now (job .entry)) (arrives fate (take count (now (answer .entry)))) (length (now (memory .entry)))) (desk .step) r (now (memory .entry)) (now (memory .exit)) ⌝ }
+{
+    let heard = arrive(fate, count, answer);
+    step_device(desk, settings, job, &answer[..heard], memory)
 }
 
 // A verdict that is given is put in its place, as its number.

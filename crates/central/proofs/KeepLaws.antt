@@ -16,7 +16,7 @@ use Rattle.journal.proofs.AppendLaws.{journal-snoc}
 use Rattle.journal.specs.Encoding.{Journal, hasRoom}
 use Rattle.line.proofs.OutcomeLaws.{choice}
 use Rattle.block.proofs.SegmentLaws.{joined-textual, joined-legal}
-use Rattle.central.specs.Content.{admits, pages, firstField, fieldCount}
+use Rattle.admission.specs.Content.{admits, pages, firstField, fieldCount}
 use Rattle.central.specs.Hearing.{Heard, silence, noise, hello, bye, misfit, logon, block}
 use Rattle.central.specs.Reaction.{Answer, nothing, idRequest, acceptance, rs, hangUp, Rules, Central, Reaction, at, fails, logsOnWith, takes, reacts}
 use Rattle.central.specs.Step.{failuresInRange, lengthInRange}

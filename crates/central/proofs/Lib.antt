@@ -1,6 +1,5 @@
 pub mod AnswerLaws
 pub mod CentralLaws
-pub mod ContentLaws
 pub mod HearingLaws
 pub mod KeepLaws
 pub mod RangeLaws

@@ -12,7 +12,7 @@ use Rattle.line.specs.Test.{if_then_else_}
 use Rattle.block.specs.Block.{Segment}
 use Rattle.block.specs.Segmentation.{continues}
 use Rattle.line.proofs.OutcomeLaws.{choice}
-use Rattle.central.specs.Content.{admits}
+use Rattle.admission.specs.Content.{admits}
 use Rattle.central.specs.Hearing.{silence, block}
 use Rattle.central.specs.Reaction.{ack, rs, Rules, Central, Reaction, stays, at, drops, reacts}
 use Rattle.central.specs.declared.state.Stage.{Stage}

@@ -23,7 +23,7 @@ use Rattle.block.specs.declared.frame.Ending.the-variants.{Etx}
 use Rattle.journal.specs.Append.{appendTo, decodeIn}
 use Rattle.journal.specs.Encoding.{encode, hasRoom}
 use Rattle.journal.specs.Walk.{decode}
-use Rattle.central.specs.Content.{admits, admittedTo, pages, firstField, fieldCount}
+use Rattle.admission.specs.Content.{admits, admittedTo, pages, firstField, fieldCount}
 use Rattle.central.specs.Inner.{Does, Stores, transactionsIn, Readable}
 use Rattle.central.specs.Reaction.{ack, at, takes}
 use Rattle.central.specs.Step.{centralOf, pendingText, rulesOf}

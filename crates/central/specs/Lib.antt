@@ -1,4 +1,3 @@
-pub mod Content
 pub mod Hearing
 pub mod Reaction
 pub mod Step

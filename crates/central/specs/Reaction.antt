@@ -9,7 +9,7 @@ use Rattle.line.specs.Parity.{withParity}
 use Rattle.line.specs.Test.{if_then_else_, same}
 use Rattle.line.specs.Text.{bytesOf}
 use Rattle.block.specs.Segmentation.{continues}
-use Rattle.central.specs.Content.{admits}
+use Rattle.admission.specs.Content.{admits}
 use Rattle.central.specs.Hearing.{Heard, silence, noise, hello, bye, misfit, logon, block}
 use Rattle.central.specs.declared.state.Stage.{Stage}
 use Rattle.central.specs.declared.state.Stage.the-variants.{Idle, Logon, Block, Closed}

@@ -1,5 +1,4 @@
 // The central: what it does with each string that comes off the line.
-pub mod admission;
 mod answer;
 mod logon;
 pub mod range;

@@ -1,5 +1,4 @@
 // What the central does with a text, stage by stage.
-use crate::admission::admits;
 use crate::answer::Answer;
 use crate::logon::has_password;
 use crate::logon::logs_on;
@@ -7,6 +6,7 @@ use crate::state::Settings;
 use crate::state::Stage;
 use crate::state::State;
 use crate::text::is_same;
+use admission::admits;
 use block::Ending;
 use block::Reading;
 use block::frame::information;

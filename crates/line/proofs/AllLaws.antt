@@ -7,7 +7,7 @@ use Prim.Native.Nat.{ℕ, zero, suc, _+_, _≤_, _<_}
 use native.Mathlib.Nat.{not-suc-le-zero, le-of-suc-le-suc}
 use native.Mathlib.Numerals.{add-one}
 use native.Mathlib.Omega.{arith}
-use lib.ListN.{length, getD, take, drop, drop-of-length-le, take-append-drop}
+use lib.ListN.{length, getD, take, drop, drop-of-length-le, length-drop, take-append-drop}
 use lib.Seq.{drop-cons}
 use borrow.Author.Tests.{eqb-true, eq-eqb, ne-eqb, leb-true, leb-false, ltb-false, lt-leb, lt-ltb}
 use lib.Dec.{eqb, leb}
@@ -172,3 +172,7 @@ before-within y (x ∷ xs) = go (eqb x y) (before-within y xs)
     go : (b : Bool) → before y xs ≤ length xs → (if b then 0 else suc (before y xs)) ≤ length (x ∷ xs)
     go true h = omega arith
     go false h = omega arith
+
+-- a place that is looked for from a place on is too
+pub find-within : (y : ℕ) (xs : List ℕ) (from : ℕ) → from ≤ length xs → from + before y (drop from xs) ≤ length xs
+find-within y xs from h = omega (arith, before-within y (drop from xs), length-drop from xs)

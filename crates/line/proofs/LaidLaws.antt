@@ -1,13 +1,15 @@
--- Laws of `Laid`: nothing, where it lies, one byte more, one stored anew, and bytes laid behind others by a writer that was lent the memory from their end on. And how it gives `Wrote`.
+-- Laws of `Laid`: nothing, where it lies, one byte more, one stored anew, and bytes laid behind others by a writer that was lent the memory from their end on. And how it gives `Wrote`, and comes of it.
 use mathlib.Core.List.{List, [], _∷_, _++_}
 use mathlib.Core.Path.{_≡_, refl, sym, ap, _∙_}
 use Prim.Native.Nat.{ℕ, _+_, _-_, _≤_, _<_}
 use native.Mathlib.Omega.{arith}
 use lib.ListN.{length, take, drop, set, length-append, length-set, length-take, length-drop}
 use lib.Seq.{take-all, set-append-left}
-use Rattle.line.specs.Answer.{Outcome, done, overlay, Laid, Wrote}
-use Rattle.line.specs.declared.answer.Written.the-variants.{Count}
-use Rattle.line.proofs.OverlayLaws.{overlay-none, overlay-length, overlay-start, overlay-snoc, overlay-part, wrote-done}
+use Rattle.line.specs.Answer.{Outcome, done, overlay, writtenAs, Laid, Wrote}
+use Rattle.line.specs.declared.answer.Refusal.{Refusal}
+use Rattle.line.specs.declared.answer.Written.{Written}
+use Rattle.line.specs.declared.answer.Written.the-variants.{Count, Refused}
+use Rattle.line.proofs.OverlayLaws.{overlay-none, overlay-length, overlay-start, overlay-snoc, overlay-part, wrote-done, refused-only}
 
 -- nothing is laid
 pub laid-none : (m : List ℕ) → Laid [] 0 m m
@@ -62,3 +64,18 @@ laid-part {a} {xs} {m} {out} {n} d h e =
 -- a writer that has laid what is due answers with its count
 pub wrote-laid : {o : Outcome (List ℕ)} {xs m out : List ℕ} {n : ℕ} → o ≡ done xs → Laid xs n m out → Wrote o (Count n) m out
 wrote-laid {xs} e d = wrote-done xs _ _ _ e (d .counts) (d .leaves)
+
+-- and one that was due to lay something is never refused, and its count is of what it has laid
+module _ {o : Outcome (List ℕ)} {xs m out : List ℕ} {r : Written} (e : o ≡ done xs) (w : Wrote o r m out) where
+  -- it is never refused
+  pub laid-never : {q : Refusal} → r ≡ Refused q → ⊥
+  laid-never {q} c =
+      let never = refused-only o q c w in
+      let z : _≡_ {A = ℕ} 0 1 = cc in
+      omega arith
+
+  -- it has laid what it counts
+  pub laid-counted : {n : ℕ} → r ≡ Count n → Laid xs n m out
+  laid-counted c =
+      let v = rw e at w in
+      record { counts = cc (v .answers, ap writtenAs c); leaves = v .leaves }

@@ -1,5 +1,6 @@
 pub mod AllLaws
 pub mod CopyLaws
+pub mod FlatLaws
 pub mod LaidLaws
 pub mod OutcomeLaws
 pub mod OverlayLaws

@@ -1,18 +1,15 @@
 -- `print` meets its contract: what waits stays where there is room for any line's listing behind it, and the listing is laid there.
-use mathlib.Core.List.{List}
 use mathlib.Core.Logic.{⊎-elim}
-use mathlib.Core.Path.{_≡_, sym, ap}
-use Prim.Native.Nat.{ℕ, _+_, _-_, _≤_}
+use mathlib.Core.Path.{_≡_, sym}
+use Prim.Native.Nat.{_+_, _-_, _≤_}
 use native.Mathlib.Omega.{arith}
 use borrow.Author.Tests.{lt-ltb, le-ltb}
 use lib.ListN.{length, take, drop}
 use lib.Seq.{length-take-le}
-use Rattle.line.specs.Answer.{Laid, Wrote, writtenAs}
-use Rattle.line.specs.declared.answer.Written.{Written}
-use Rattle.line.specs.declared.answer.Written.the-variants.{Count}
-use Rattle.line.proofs.OverlayLaws.{overlay-own, refused-only}
-use Rattle.line.proofs.LaidLaws.{part-length, laid-within, laid-part}
-use Rattle.block.specs.Listing.{listing, listed}
+use Rattle.line.specs.Answer.{done, Laid}
+use Rattle.line.proofs.OverlayLaws.{overlay-own}
+use Rattle.line.proofs.LaidLaws.{part-length, laid-within, laid-part, laid-never, laid-counted}
+use Rattle.listing.specs.Listing.{listing, listed}
 use Rattle.blocks.specs.Lines.{stays}
 use borrow.Author.Needs.{needs}
 use Rattle.blocks.proofs.print.Statement.{statement}
@@ -31,14 +28,18 @@ room c =
     (λ w. (rw (le-ltb (length (a .out .now)) (a .waiting + 10248) (w .0 .left)) (omega arith), omega arith))
     (c .if1 .came)
 
--- a listing that has room is laid
-listed-laid : {r : Written} (line m after : List ℕ) (n : ℕ) → 10248 ≤ length m → r ≡ Count n → Wrote (listed line (length m)) r m after → Laid (listing line) n m after
+-- so the listing is made
+made : (c : tie.Joined1) →
+    let a = c .before .before .before .args in
+    let at = c .if1 .at in
+    listed (a .line .now) (length (take (length (a .out .now) - at) (drop at (a .out .now)))) ≡ done (listing (a .line .now))
 unfolding listed
-listed-laid line m after n h e w =
-    let v = rw (le-ltb (length m) 10248 h) at w in
-    record { counts = cc (v .answers, ap writtenAs e); leaves = v .leaves }
+made c =
+    let a = c .before .before .before .args in
+    let fits = room c .1 in
+    rw (part-length (c .if1 .at) (a .out .now), le-ltb (length (a .out .now) - c .if1 .at) 10248 (omega arith))
 
--- the listing is laid behind what stays, within the output
+-- and laid behind what stays, within the output
 laid : (c : tie.After-n) →
     let d = c .before .before .before .before .before .before .before in
     let out = d .before .before .before .args .out .now in
@@ -53,8 +54,8 @@ laid c =
     let list = c .before .before .before .before .list in
     let long = part-length at out in
     let fits = room d .1 in
-    let done = listed-laid (a .line .now) (take (length out - at) (drop at out)) (list .last .1 .0) (c .n .given .0 .0) (rw long (omega arith)) (c .n .given .1) (list .ensures) in
-    (omega (arith, laid-within done, list .kept .1 .0), done)
+    let printed = laid-counted (made d) (list .ensures) (c .n .given .1) in
+    (omega (arith, laid-within printed, list .kept .1 .0), printed)
 
 add-if1 : tie.Need-add-if1
 add-if1 c = search needs
@@ -96,26 +97,18 @@ returns : tie.Need-returns
 returns c =
     let d = c .before .before .before .before .before .before .before .before in
     let a = d .before .before .before .args in
-    let (within, done) = laid (c .before) in
+    let (within, printed) = laid (c .before) in
     let (stay, fits) = room d in
     rw (← stay)
-    (laid-part (record { counts = sym (length-take-le (d .if1 .at) (a .out .now) (omega arith)); leaves = overlay-own (d .if1 .at) (a .out .now) (omega arith) }) (omega (arith, done .counts)) done)
+    (laid-part (record { counts = sym (length-take-le (d .if1 .at) (a .out .now) (omega arith)); leaves = overlay-own (d .if1 .at) (a .out .now) (omega arith) }) (omega (arith, printed .counts)) printed)
 
 same-length-2 : tie.Need-same-length-2
 same-length-2 c = search needs
 
 returns-2 : tie.Need-returns-2
-unfolding listed
 returns-2 c =
     let d = c .before .before .before .before .before .before .before in
-    let a = d .before .before .before .args in
-    let fits = room d .1 in
-    let long = part-length (d .if1 .at) (a .out .now) in
-    let list = c .before .before .before .before .list in
-    let room = le-ltb (length (take (length (a .out .now) - d .if1 .at) (drop (d .if1 .at) (a .out .now)))) 10248 (omega arith) in
-    let never = rw room at (refused-only (listed (a .line .now) (length (take (length (a .out .now) - d .if1 .at) (drop (d .if1 .at) (a .out .now))))) _ (c .enum-told .given .1) (list .ensures)) in
-    let z : _≡_ {A = ℕ} 0 1 = cc in
-    absurd (omega arith)
+    absurd (laid-never (made d) (c .before .before .before .before .list .ensures) (c .enum-told .given .1))
 
 pub print-spec : {M : Type 1} → statement M
 print-spec =

@@ -6,7 +6,7 @@ use Prim.Native.Nat.{ℕ, _+_, _-_, _≤_}
 use native.Mathlib.Omega.{arith}
 use lib.ListN.{length, take, drop, drop-of-length-le}
 use lib.Seq.{length-take-le}
-use Rattle.block.specs.Listing.{listing}
+use Rattle.listing.specs.Listing.{listing}
 use Rattle.blocks.specs.Lines.{taken}
 use Rattle.blocks.proofs.LineLaws.{found-within, taken-part, taken-line, waits-behind}
 use Rattle.line.proofs.LaidLaws.{laid-start, laid-within}

@@ -10,7 +10,7 @@ use Rattle.line.specs.Character.{byte}
 use Rattle.line.specs.Test.{all}
 use Rattle.line.proofs.OverlayLaws.{refused-only}
 use Rattle.journal.proofs.AppendLaws.{decode-in-parts}
-use Rattle.central.specs.Content.{admits}
+use Rattle.admission.specs.Content.{admits}
 use Rattle.central.specs.Inner.{transactionsIn}
 use Rattle.central.specs.Reaction.{at, rs}
 use Rattle.central.specs.declared.state.Stage.the-variants.{Block}

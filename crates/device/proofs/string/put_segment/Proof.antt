@@ -1,8 +1,8 @@
 -- `put_segment` meets its contract: the block at a place of the job is written, for its transaction is legal, and put out with parity.
-use mathlib.Core.Bool.{true, false≢true}
+use mathlib.Core.Bool.{true}
 use mathlib.Core.List.{[]}
-use mathlib.Core.Path.{_≡_, sym, _∙_}
-use Prim.Native.Nat.{_<_}
+use mathlib.Core.Path.{_≡_, sym}
+use Prim.Native.Nat.{_≤_, _<_}
 use borrow.Author.Tests.{lt-ltb}
 use lib.ListN.{length, getD, take}
 use lib.Seq.{length-take-le}
@@ -10,12 +10,13 @@ use Rattle.line.specs.Answer.{done, output}
 use Rattle.line.specs.Character.{byte}
 use Rattle.line.specs.Transaction.{legal}
 use Rattle.line.proofs.AllLaws.{all-each}
-use Rattle.line.proofs.OverlayLaws.{refused-only, counted-start}
+use Rattle.line.proofs.LaidLaws.{laid-start, laid-within, laid-never, laid-counted}
 use Rattle.block.specs.Segmentation.{blockCount, segmentAt, segmentBlock, writeSegment}
+use Rattle.block.proofs.SegmentLaws.{segment-seven, segment-written}
+use Rattle.block.proofs.SegmentationLaws.{segment-short}
 use Rattle.journal.specs.Walk.{decode}
 use Rattle.device.proofs.DecodedLaws.{decoded-legal}
 use Rattle.device.proofs.PlaceLaws.{somewhere-parts}
-use Rattle.device.proofs.WritingLaws.{segment-written, segment-seven, segment-short}
 use native.Mathlib.Omega.{arith}
 use borrow.Author.Needs.{needs}
 use Rattle.device.proofs.string.put_segment.Statement.{statement}
@@ -44,16 +45,17 @@ writes c =
     rw (c .oldest .ensures) (segment-written _ (s .before .args .place .block) good block)
 
 -- it lies at the start of the memory
-lies : (c : tie.After-known-told) →
-    let w = c .before .before .before .before in
+lies : (c : tie.After-n) →
+    let n = c .n .given .0 .0 in
+    let w = c .before .before .before in
     let a = w .before .before .before .before .before .args in
     let t = getD (output (decode (a .job .now))) (a .place .transaction) [] in
-    take (c .before .n .given .0 .0) (w .write-segment .last .1 .1 .0) ≡ segmentBlock (segmentAt t (a .place .block))
+    let memory = w .write-segment .last .1 .1 .0 in
+    (n ≤ length memory) × (take n memory ≡ segmentBlock (segmentAt t (a .place .block)))
 lies c =
-    let w = c .before .before .before .before in
-    let counted = counted-start _ _ (c .before .n .given .1) (w .write-segment .ensures) .1 in
-    let written = writes (w .before .before) in
-    cc
+    let w = c .before .before .before in
+    let laid = laid-counted (writes (w .before .before)) (w .write-segment .ensures) (c .n .given .1) in
+    (laid-within laid, laid-start laid)
 
 oldest-requires : tie.Need-oldest-requires
 oldest-requires c κs = search needs
@@ -72,17 +74,14 @@ enum-told c = search needs
 
 returns : tie.Need-returns
 returns c =
-    let d = c .before .before .before in
-    let written = sym (writes (d .before .before)) ∙ refused-only _ _ (c .enum-told .given .1) (d .write-segment .ensures) in
-    absurd (false≢true cc)
+    let w = c .before .before .before in
+    absurd (laid-never (writes (w .before .before)) (w .write-segment .ensures) (c .enum-told .given .1))
 
 array-share-prefix-text : tie.Need-array-share-prefix-text
-array-share-prefix-text c = counted-start _ _ (c .before .n .given .1) (c .before .before .before .before .write-segment .ensures) .0
+array-share-prefix-text c = lies (c .before) .0
 
 slice-aggregate-put-text : tie.Need-slice-aggregate-put-text
-slice-aggregate-put-text c =
-    let d = c .before .before in
-    sym (length-take-le _ _ (counted-start _ _ (d .n .given .1) (d .before .before .before .write-segment .ensures) .0))
+slice-aggregate-put-text c = sym (length-take-le _ _ (lies (c .before .before) .0))
 
 put-text-requires : tie.Need-put-text-requires
 put-text-requires c κs =
@@ -91,7 +90,7 @@ put-text-requires c κs =
     let a = s .before .args in
     let t = getD (output (decode (a .job .now))) (a .place .transaction) [] in
     let (good, block) = placed s in
-    rw (lies (c .before .before)) (segment-seven t (a .place .block) good block, omega (arith, segment-short t (a .place .block) good block))
+    rw (lies d .1) (segment-seven t (a .place .block) good block, omega (arith, segment-short t (a .place .block) block))
 
 same-length : tie.Need-same-length
 same-length c = search needs
@@ -99,7 +98,7 @@ same-length c = search needs
 returns-2 : tie.Need-returns-2
 returns-2 c =
     let d = c .before .before in
-    rw (lies (d .before .before .before)) at (d .put-text .ensures)
+    rw (lies (d .before .before .before .before) .1) at (d .put-text .ensures)
 
 pub put-segment-spec : {M : Type 1} → statement M
 put-segment-spec =

@@ -1,7 +1,7 @@
 -- `word` is safe: both ends of the word lie within the call.
 use native.Mathlib.Omega.{arith}
 use borrow.Author.Needs.{needs}
-use Rattle.vectors.proofs.FindLaws.{find-within}
+use Rattle.line.proofs.AllLaws.{find-within}
 use Rattle.vectors.proofs.argument.word.Statement.{statement}
 use Rattle.vectors.proofs.argument.word.Tie as tie
 

@@ -1,0 +1,51 @@
+-- What the program `blocks` prints for one line of its input (document 01, "Numbers to hold it to").
+use mathlib.Core.Bool.{Bool, not, _&&_}
+use mathlib.Core.List.{List, [], _∷_, _++_, flatMap}
+use Prim.Native.Nat.{ℕ, _+_}
+use lib.Dec.{eqb, ltb}
+use lib.ListN.{length}
+use Rattle.line.specs.Answer.{Outcome, done, refused}
+use Rattle.line.specs.Character.{STX, ETX, ETB, US, CR, LF, seven, printable}
+use Rattle.line.specs.Test.{if_then_else_, all}
+use Rattle.line.specs.Text.{bytesOf}
+use Rattle.block.specs.Block.{Segment}
+use Rattle.block.specs.Segmentation.{segmentBlock, segmentation}
+
+-- a character as it is printed: the control characters of a block by their names
+unfoldable pub shown : ℕ → List ℕ
+shown c =
+    if eqb c STX then bytesOf "<STX>"
+    else if eqb c ETX then bytesOf "<ETX>"
+    else if eqb c ETB then bytesOf "<ETB>"
+    else if eqb c US then bytesOf "<US>"
+    else if eqb c CR then bytesOf "<CR>"
+    else c ∷ []
+
+-- a block on a line of its own
+abbrev pub printedBlock : Segment → List ℕ
+printedBlock g = flatMap shown (segmentBlock g) ++ LF ∷ []
+
+-- a refusal on a line of its own
+abbrev pub printedRefusal : ℕ → List ℕ
+printedRefusal n = bytesOf "refused " ++ (0x30 + n) ∷ LF ∷ []
+
+-- a line has a space
+abbrev pub spaced : List ℕ → Bool
+spaced line = not (all (λ c. not (eqb c 0x20)) line)
+
+-- the information of a line that is cut at its first space into two fields
+unfoldable pub fieldsOf : List ℕ → List ℕ
+fieldsOf [] = CR ∷ []
+fieldsOf (c ∷ line) = if eqb c 0x20 then CR ∷ line ++ CR ∷ [] else c ∷ fieldsOf line
+
+-- what is printed for a line: its blocks; `refused 2` over 1,999 characters, `refused 3` by a byte of 80 hex or more, `refused 6` by another wrong character or no space
+unfoldable pub listing : List ℕ → List ℕ
+listing line =
+    if ltb 1999 (length line) then printedRefusal 2
+    else if not (all seven line) then printedRefusal 3
+    else if not (all printable line && spaced line) then printedRefusal 6
+    else flatMap printedBlock (segmentation (fieldsOf line))
+
+-- the same into a buffer of so many bytes: 1 where it has not room for any line's. The longest takes at most 5 bytes for each of 2,048 characters and 8 line ends
+unfoldable pub listed : List ℕ → ℕ → Outcome (List ℕ)
+listed line room = if ltb room 10248 then refused 1 else done (listing line)
