@@ -2,8 +2,9 @@
 use mathlib.Core.Bool.{true, false, and-eq-true-iff}
 use mathlib.Core.List.{List, [], _++_}
 use mathlib.Core.Path.{_≡_, _∙_}
-use Prim.Native.Nat.{ℕ, zero, suc, _+_, _≤_, _<_}
+use Prim.Native.Nat.{ℕ, zero, suc, _+_, _*_, _≤_, _<_}
 use native.Mathlib.Nat.{not-suc-le-zero, le-of-suc-le-suc}
+use native.Mathlib.Omega.{arith}
 use borrow.Author.Tests.{lt-leb, le-ltb, le-leb}
 use lib.ListN.{length, getD}
 use Rattle.line.specs.Answer.{done}
@@ -13,7 +14,7 @@ use Rattle.line.specs.Transaction.{legal, endsInCR}
 use Rattle.line.proofs.AllLaws.{all-append}
 use Rattle.line.proofs.TransactionLaws.{legal-transaction, of-legal, ends-some, ends-joined}
 use Rattle.block.specs.Block.{Segment, right, agrees}
-use Rattle.block.specs.Segmentation.{segment, continues, Joins, last, more, blockCount, segmentAt, segmentBlock, writeSegment}
+use Rattle.block.specs.Segmentation.{segment, continues, Joins, last, more, blockCount, segmentation, segmentAt, segmentBlock, blocksOf, writeSegment, writeSegments}
 use Rattle.block.specs.declared.frame.Ending.{Ending}
 use Rattle.block.specs.declared.frame.Ending.the-variants.{Etx, Etb, Us}
 use Rattle.block.proofs.FrameLaws.{write-read, read-done}
@@ -42,6 +43,12 @@ module _ (t : List ℕ) (i : ℕ) (good : legal t ≡ true) (h : i < blockCount 
   pub segment-written : writeSegment t i 256 ≡ done (segmentBlock (segmentAt t i))
   unfolding writeSegment
   segment-written = rw (lt-leb (blockCount (length t)) i h, le-ltb 256 (length (segmentAt t i .info) + 6) (segment-fits t i h), of-legal t _ good)
+
+-- all blocks of a legal transaction are written to memory of 2,048 bytes
+pub segments-written : (t : List ℕ) → legal t ≡ true → writeSegments t 2048 ≡ done (blocksOf (segmentation t))
+unfolding writeSegments
+segments-written t good =
+    rw (le-ltb 2048 (length t + 6 * blockCount (length t)) (omega (arith, legal-transaction t good .within)), of-legal t _ good)
 
 -- information that its ending allows ends in CR before ETX
 pub last-ends : (info : List ℕ) (e : Ending) → right info e ≡ true → continues e ≡ false → endsInCR info ≡ true

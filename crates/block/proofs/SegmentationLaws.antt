@@ -6,10 +6,10 @@ use Prim.Native.Nat.{ℕ, zero, suc, _+_, _*_, _-_, _≤_, _<_, min}
 use native.Mathlib.Nat.{not-suc-le-zero, le-of-suc-le-suc}
 use native.Mathlib.Numerals.{add-one}
 use native.Mathlib.Omega.{arith}
-use borrow.Author.Tests.{le-leb, leb-true}
+use borrow.Author.Tests.{le-leb, leb-true, leb-false}
 use lib.Dec.{eqb, leb, eqb·zero-suc, eqb·suc-suc}
-use lib.ListN.{length, getD, take, drop, length-append, length-take, length-drop, take-append-drop}
-use lib.Seq.{take-all, take-take, drop-drop, length-take-le}
+use lib.ListN.{length, getD, take, drop, length-append, length-take, length-drop, take-append-drop, drop-of-length-le}
+use lib.Seq.{take-all, take-at, take-take, drop-at, drop-cons, drop-drop, length-take-le}
 use Rattle.line.specs.Character.{textual}
 use Rattle.line.specs.Test.{if_then_else_, all}
 use Rattle.line.specs.Transaction.{Transaction, endsInCR}
@@ -82,7 +82,7 @@ pub segment-short : (t : List ℕ) (i : ℕ) → i < blockCount (length t) → l
 segment-short t i h = rw (block-length (segmentAt t i .info) (segmentAt t i .ending)) (segment-fits t i h)
 
 -- the first n members, where n is cut to the length
-take-min : {A : Type 0} (n : ℕ) (xs : List A) → take (min n (length xs)) xs ≡ take n xs
+pub take-min : {A : Type 0} (n : ℕ) (xs : List A) → take (min n (length xs)) xs ≡ take n xs
 take-min n xs = sym (take-take (min n (length xs)) n xs (omega arith)) ∙ take-all (min n (length xs)) (take n xs) (omega (arith, length-take n xs))
 
 -- the i-th block holds what stands from its start to its end, as the writer cuts it
@@ -153,6 +153,35 @@ segments-length (suc (suc k)) t fits =
 -- the blocks of a transaction have six characters each besides the information
 pub blocks-length : (t : List ℕ) → length (blocksOf (segmentation t)) ≡ length t + 6 * blockCount (length t)
 blocks-length t = segments-length (blockCount (length t)) t (omega arith)
+
+-- the blocks before one are full
+blocks-before : (t : List ℕ) (i : ℕ) → i < blockCount (length t) → length (blocksOf (take i (segmentation t))) ≡ 256 * i
+unfolding flatMap
+blocks-before t zero h = omega arith
+blocks-before t (suc i) h =
+    let here : i < blockCount (length t) = omega arith in
+    let place : i < length (segmentation t) = rw (segmentation-count t) here in
+    let g = segmentAt t i in
+    let next = rw add-one at (flat-snoc segmentBlock (segmentation t) i (segment [] Etx) place) in
+    rw (next, length-append) (omega (arith, blocks-before t i here, block-length (g .info) (g .ending), segment-length t i here))
+
+-- so a block is a piece of 256 of them, or what is left
+pub blocks-at : (t : List ℕ) (i : ℕ) → i < blockCount (length t) → take 256 (drop (256 * i) (blocksOf (segmentation t))) ≡ segmentBlock (segmentAt t i)
+unfolding flatMap
+blocks-at t i h =
+    let ss = segmentation t in
+    let g = segmentAt t i in
+    let place : i < length ss = rw (segmentation-count t) h in
+    let whole = rw (take-append-drop, drop-cons ss i (segment [] Etx) place) at (flat-append segmentBlock (take i ss) (drop i ss)) in
+    rw (whole, drop-at (blocksOf (take i ss)) (segmentBlock g ++ blocksOf (drop (suc i) ss)) (256 * i) (blocks-before t i h)) (front (leb (blockCount (length t)) (i + 1)) refl)
+  where
+    front : (b : Bool) → leb (blockCount (length t)) (i + 1) ≡ b → take 256 (segmentBlock (segmentAt t i) ++ blocksOf (drop (suc i) (segmentation t))) ≡ segmentBlock (segmentAt t i)
+    front true e =
+        let end : length (segmentation t) ≤ suc i = rw (segmentation-count t) (omega (arith, leb-true (blockCount (length t)) (i + 1) e)) in
+        rw (drop-of-length-le (segmentation t) end, append-nil) (take-all 256 (segmentBlock (segmentAt t i)) (segment-short t i h))
+    front false e =
+        let full : length (segmentBlock (segmentAt t i)) ≡ 256 = block-length (segmentAt t i .info) (segmentAt t i .ending) ∙ (omega (arith, leb-false (blockCount (length t)) (i + 1) e, segment-length t i h)) in
+        take-at (segmentBlock (segmentAt t i)) (blocksOf (drop (suc i) (segmentation t))) 256 full
 
 -- a block fits behind those before it
 pub blocks-fit : (t : List ℕ) (i : ℕ) → i < blockCount (length t) →

@@ -21,9 +21,13 @@ shown c =
     else if eqb c CR then bytesOf "<CR>"
     else c ∷ []
 
+-- characters on a line of their own
+abbrev pub printedLine : List ℕ → List ℕ
+printedLine text = flatMap shown text ++ LF ∷ []
+
 -- a block on a line of its own
 abbrev pub printedBlock : Segment → List ℕ
-printedBlock g = flatMap shown (segmentBlock g) ++ LF ∷ []
+printedBlock g = printedLine (segmentBlock g)
 
 -- a refusal on a line of its own
 abbrev pub printedRefusal : ℕ → List ℕ

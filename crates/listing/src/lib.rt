@@ -1,6 +1,6 @@
 // What the program `blocks` prints for one line of its input.
 use block::segmentation::block_count;
-use block::segmentation::write_segment;
+use block::segmentation::write_segments;
 use line::Refusal;
 use line::Written;
 use line::answer::number;
@@ -18,19 +18,22 @@ ghost use mathlib.Core.Bool.{true};
 ghost use mathlib.Core.List.{flatMap};
 ghost use mathlib.Core.Path.{_≡_};
 ghost use Prim.Native.Nat.{_*_, _<_, _≤_};
-ghost use lib.ListN.{length};
+ghost use lib.ListN.{length, take, drop};
 ghost use Rattle.line.specs.Answer.{Wrote, Laid, refusalNumber};
 ghost use Rattle.line.specs.Character.{printable};
 ghost use Rattle.line.specs.Test.{all};
 ghost use Rattle.line.specs.Transaction.{legal};
-ghost use Rattle.block.specs.Segmentation.{blockCount, segmentAt, segmentation};
-ghost use Rattle.listing.specs.Listing.{fieldsOf, listed, listing, printedBlock, printedRefusal, shown, spaced};
+ghost use Rattle.block.specs.Segmentation.{blocksOf, segmentation};
+ghost use Rattle.listing.specs.Listing.{fieldsOf, listed, listing, printedBlock, printedLine, printedRefusal, shown, spaced};
 
 // Room for what any line prints.
 pub const ROOM: usize = 10248;
 
 // The most characters of a line: a transaction's, less the CR at its end.
 const LINE: usize = 1999;
+
+// The characters of a full block.
+const BLOCK: usize = 256;
 
 // The blocks of the transaction that a line is, cut at its first space into two fields, each block
 // printed on a line of its own; or the line `refused` with the number.
@@ -94,32 +97,48 @@ fn put_fields(line: &[u8], out: &mut [u8]) -> usize
     n + 1
 }
 
-// The blocks of a transaction, each on a line of its own.
+// The blocks of a transaction, each on a line of its own. They are written together, so that the
+// transaction is tested once.
 fn put_blocks(info: &[u8], out: &mut [u8]) -> usize
     requires { ⌜ (legal (now info) ≡ true) × (10248 ≤ length (now out)) ⌝ }
+    ensures { λ r. ⌜ Laid (flatMap printedBlock (segmentation (now (info .entry)))) r (now (out .entry)) (now (out .exit)) ⌝ }
+{
+    let mut blocks = [0; 2048];
+    // Never refused: the information is a legal transaction, and its blocks fit.
+    let Written::Count(n) = write_segments(info, &mut blocks) else {
+        return 0;
+    };
+    put_lines(info, &blocks[..n], out)
+}
+
+// The blocks of a transaction, which stand one after the other, each on a line of its own.
+fn put_lines(info: &[u8], blocks: &[u8], out: &mut [u8]) -> usize
+    requires { ⌜ (length (now info) ≤ 2000) × (now blocks ≡ blocksOf (segmentation (now info))) × (10248 ≤ length (now out)) ⌝ }
     ensures { λ r. ⌜ Laid (flatMap printedBlock (segmentation (now (info .entry)))) r (now (out .entry)) (now (out .exit)) ⌝ }
 {
     let count = block_count(info.len());
     let mut index = 0;
     let mut at = 0;
     while index < count {
-        at += put_printed(info, index, &mut out[at..]);
+        at += put_printed(blocks, index, &mut out[at..]);
         index += 1;
     }
     at
 }
 
-// The block at an index, on a line of its own.
-fn put_printed(info: &[u8], index: usize, out: &mut [u8]) -> usize
-    requires { ⌜ (legal (now info) ≡ true) × (index < blockCount (length (now info))) × (1281 ≤ length (now out)) ⌝ }
-    ensures { λ r. ⌜ Laid (printedBlock (segmentAt (now (info .entry)) index)) r (now (out .entry)) (now (out .exit)) ⌝ }
+// The block at an index on a line of its own: all blocks but the last are full.
+fn put_printed(blocks: &[u8], index: usize, out: &mut [u8]) -> usize
+    requires { ⌜ (256 * index < length (now blocks)) × (1281 ≤ length (now out)) ⌝ }
+    ensures { λ r. ⌜ Laid (printedLine (take 256 (drop (256 * index) (now (blocks .entry))))) r (now (out .entry)) (now (out .exit)) ⌝ }
 {
-    let mut block = [0; 256];
-    // Never refused: the information is a legal transaction, and a block fits.
-    let Written::Count(n) = write_segment(info, index, &mut block) else {
-        return 0;
+    let from = BLOCK * index;
+    let rest = blocks.len() - from;
+    let end = if rest < BLOCK {
+        blocks.len()
+    } else {
+        from + BLOCK
     };
-    let at = put_shown(&block[..n], out);
+    let at = put_shown(&blocks[from..end], out);
     out[at] = LF;
     at + 1
 }

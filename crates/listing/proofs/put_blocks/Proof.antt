@@ -1,115 +1,78 @@
--- `put_blocks` meets its contract: after i turns the first i blocks are printed at the start of the output, in at most 1,281 bytes each.
-use mathlib.Core.List.{[], flatMap}
-use mathlib.Core.Path.{_≡_, refl}
-use Prim.Native.Nat.{_+_, _-_, _*_, _≤_, _<_}
-use native.Mathlib.Omega.{arith}
-use borrow.Rule.Slice.PartMut.{putMid}
+-- `put_blocks` meets its contract: the blocks are written, for the transaction is legal, and put on their lines.
+use mathlib.Core.Path.{_≡_, sym}
+use Prim.Native.Nat.{_≤_}
 use lib.ListN.{length, take}
-use Rattle.line.specs.Answer.{Laid}
-use Rattle.line.proofs.FlatLaws.{flat-turn}
-use Rattle.line.proofs.LaidLaws.{part-length, laid-none}
+use lib.Seq.{length-take-le}
+use Rattle.line.specs.Answer.{done}
+use Rattle.line.proofs.LaidLaws.{laid-start, laid-within, laid-never, laid-counted}
 use Rattle.line.proofs.TransactionLaws.{legal-transaction}
-use Rattle.block.specs.Segmentation.{blockCount, segment, segmentation}
-use Rattle.block.specs.declared.frame.Ending.the-variants.{Etx}
-use Rattle.block.proofs.SegmentationLaws.{segmentation-count, segmentation-whole}
-use Rattle.listing.specs.Listing.{printedBlock}
-use Rattle.listing.proofs.ListingLaws.{printed-length}
+use Rattle.block.specs.Segmentation.{blocksOf, segmentation, writeSegments}
+use Rattle.block.proofs.SegmentLaws.{segments-written}
 use borrow.Author.Needs.{needs}
 use Rattle.listing.proofs.put_blocks.Statement.{statement}
 use Rattle.listing.proofs.put_blocks.Tie as tie
 
-abbrev Inv-loop : tie.InvT-loop
-Inv-loop info out₀ count index₀ at₀ out index at = (index ≤ count) × (at ≤ 1281 * index) × (length out ≡ length out₀) × Laid (flatMap printedBlock (take index (segmentation info))) at out₀ out
+-- the blocks are written
+writes : (s : tie.Start) → writeSegments (s .args .info .now) 2048 ≡ done (blocksOf (segmentation (s .args .info .now)))
+writes s = segments-written (s .args .info .now) (s .pre .0)
 
-abbrev μ-loop : tie.MeasureT-loop
-μ-loop info out₀ count index₀ at₀ out index at = count - index
+-- they lie at the start of the memory
+lies : (c : tie.After-n) →
+    let n = c .n .given .0 .0 in
+    let w = c .before .before .before in
+    let memory = w .write-segments .last .1 .0 in
+    (n ≤ length memory) × (take n memory ≡ blocksOf (segmentation (w .before .before .before .before .args .info .now)))
+lies c =
+    let w = c .before .before .before in
+    let laid = laid-counted (writes (w .before .before .before .before)) (w .write-segments .ensures) (c .n .given .1) in
+    (laid-within laid, laid-start laid)
 
--- there is a block at the index
-within : (c : tie.In-loop Inv-loop μ-loop) → c .before .loop .index < blockCount (length (c .before .before .before .before .before .args .info .now))
-within c =
-    let count = c .before .before .block-count .ensures in
-    omega arith
+slice-aggregate-write-segments : tie.Need-slice-aggregate-write-segments
+slice-aggregate-write-segments c = search needs
 
--- and it has room: there are at most eight
-room : (c : tie.In-loop Inv-loop μ-loop) → c .before .loop .at + 1281 ≤ length (c .before .loop .out)
-room c =
-    let count = c .before .before .block-count .ensures in
-    let s = c .before .before .before .before .before in
-    omega (arith, legal-transaction (s .args .info .now) (s .pre .0) .within)
+write-segments-requires : tie.Need-write-segments-requires
+write-segments-requires c κs = search needs
 
--- one block more
-turn : (c : tie.After-slice-known2 Inv-loop μ-loop) →
-    let r = c .before .before .put-printed .result in
-    let l = c .before .before .before .before .before .loop in
-    let a = c .before .before .before .before .before .before .before .before .before .args in
-    let after = putMid (l .at) (length (l .out) - l .at) (l .out) (c .before .before .put-printed .last .1 .1 .0) in
-    (r ≤ 1281) × (length after ≡ length (a .out .now)) × Laid (flatMap printedBlock (take (l .index + 1) (segmentation (a .info .now)))) (l .at + r) (a .out .now) after
-turn c =
-    let d = c .before .before .before .before in
-    let l = d .before .loop in
-    let t = d .before .before .before .before .before .args .info .now in
-    let place = within d in
-    let fits = room d in
-    flat-turn printedBlock 1281 (segmentation t) (segment [] Etx) (l .index) (printed-length t (l .index) place) (rw (segmentation-count t) place) (omega arith) (l .inv .3) (c .before .before .put-printed .ensures)
+enum-known-n : tie.Need-enum-known-n
+enum-known-n c = search needs
 
-block-count-requires : tie.Need-block-count-requires Inv-loop μ-loop
-block-count-requires c κs = search needs
+enum-told : tie.Need-enum-told
+enum-told c = search needs
 
-loop-holds : tie.Need-loop-holds Inv-loop μ-loop
-unfolding flatMap
-loop-holds c = (search needs, search needs, refl, laid-none _)
+returns : tie.Need-returns
+returns c =
+    let w = c .before .before .before in
+    absurd (laid-never (writes (w .before .before .before .before)) (w .write-segments .ensures) (c .enum-told .given .1))
 
-sub-put-printed : tie.Need-sub-put-printed Inv-loop μ-loop
-sub-put-printed c = omega (arith, room c)
+array-share-prefix-blocks : tie.Need-array-share-prefix-blocks
+array-share-prefix-blocks c = lies (c .before) .0
 
-part-put-printed-start : tie.Need-part-put-printed-start Inv-loop μ-loop
-part-put-printed-start c = omega (arith, room c)
+slice-aggregate-put-lines : tie.Need-slice-aggregate-put-lines
+slice-aggregate-put-lines c = sym (length-take-le _ _ (lies (c .before .before) .0))
 
-part-put-printed-end : tie.Need-part-put-printed-end Inv-loop μ-loop
-part-put-printed-end c = search needs
+put-lines-requires : tie.Need-put-lines-requires
+put-lines-requires c κs =
+    let n = c .before .before .before in
+    let s = n .before .before .before .before .before .before .before in
+    (legal-transaction (s .args .info .now) (s .pre .0) .within, lies n .1, s .pre .1)
 
-put-printed-requires : tie.Need-put-printed-requires Inv-loop μ-loop
-put-printed-requires c κs =
-    let l = c .before .before .loop in
-    (c .before .before .before .before .before .before .pre .0, within (c .before), rw (part-length (l .at) (l .out)) (omega (arith, room (c .before))))
-
-add-at : tie.Need-add-at Inv-loop μ-loop
-add-at c = omega (arith, turn c .0, room (c .before .before .before .before))
-
-add-index : tie.Need-add-index Inv-loop μ-loop
-add-index c = search needs
-
-loop-less : tie.Need-loop-less Inv-loop μ-loop
-loop-less c = search needs
-
-loop-again : tie.Need-loop-again Inv-loop μ-loop
-loop-again c = (search needs, omega (arith, turn c .0), turn c .1, turn c .2)
-
-same-length : tie.Need-same-length Inv-loop μ-loop
+same-length : tie.Need-same-length
 same-length c = search needs
 
-returns : tie.Need-returns Inv-loop μ-loop
-returns c =
-    let l = c .before .loop in
-    let b = c .before .before in
-    let t = b .before .before .before .args .info .now in
-    rw (segmentation-whole t (l .index) (omega (arith, b .block-count .ensures))) at (l .inv .3)
+returns-2 : tie.Need-returns-2
+returns-2 c = c .before .before .put-lines .ensures
 
 pub put-blocks-spec : {M : Type 1} → statement M
 put-blocks-spec =
     tie.close
     (tie.spec
-    Inv-loop
-    μ-loop
-    block-count-requires
-    loop-holds
-    sub-put-printed
-    part-put-printed-start
-    part-put-printed-end
-    put-printed-requires
-    add-at
-    add-index
-    loop-less
-    loop-again
+    slice-aggregate-write-segments
+    write-segments-requires
+    enum-known-n
+    enum-told
+    returns
+    array-share-prefix-blocks
+    slice-aggregate-put-lines
+    put-lines-requires
     same-length
-    returns)
+    returns-2)

@@ -1,80 +1,79 @@
--- `put_printed` meets its contract: the block is written, for the transaction is legal, its characters are printed, and LF is stored behind them.
+-- `put_printed` meets its contract: the piece of the blocks that it cuts is printed, and LF is stored behind it.
 use mathlib.Core.List.{flatMap}
-use mathlib.Core.Path.{_≡_, refl, sym}
-use Prim.Native.Nat.{_≤_}
+use mathlib.Core.Logic.{⊎-elim}
+use mathlib.Core.Path.{_≡_, refl}
+use Prim.Native.Nat.{_-_, _*_, _≤_, min}
 use native.Mathlib.Omega.{arith}
-use lib.ListN.{length, take}
-use lib.Seq.{length-take-le}
-use Rattle.line.specs.Answer.{done, Laid}
-use Rattle.line.proofs.LaidLaws.{laid-length, laid-start, laid-within, laid-snoc, laid-never, laid-counted}
-use Rattle.block.specs.Segmentation.{segmentAt, segmentBlock, writeSegment}
-use Rattle.block.proofs.SegmentLaws.{segment-written}
-use Rattle.block.proofs.SegmentationLaws.{segment-short}
+use lib.ListN.{length, take, drop, length-take, length-drop}
+use Rattle.line.specs.Answer.{Laid}
+use Rattle.line.proofs.FlatLaws.{flat-bound}
+use Rattle.line.proofs.LaidLaws.{laid-length, laid-snoc}
+use Rattle.block.proofs.SegmentationLaws.{take-min}
 use Rattle.listing.specs.Listing.{shown}
-use Rattle.listing.proofs.ListingLaws.{block-shown}
+use Rattle.listing.proofs.ListingLaws.{shown-length}
 use borrow.Author.Needs.{needs}
 use Rattle.listing.proofs.put_printed.Statement.{statement}
 use Rattle.listing.proofs.put_printed.Tie as tie
 
--- the block is written
-writes : (s : tie.Start) → writeSegment (s .args .info .now) (s .args .index) 256 ≡ done (segmentBlock (segmentAt (s .args .info .now) (s .args .index)))
-writes s = segment-written (s .args .info .now) (s .args .index) (s .pre .0) (s .pre .1)
+-- the end of the piece lies within the blocks, at most 256 behind its start
+cut : (c : tie.Joined1) →
+    let a = c .before .before .before .args in
+    let from = 256 * a .index in
+    (from ≤ c .if1 .end) × (c .if1 .end ≤ length (a .blocks .now)) × (c .if1 .end - from ≡ min 256 (length (a .blocks .now) - from))
+cut c =
+    let pre = c .before .before .before .pre in
+    ⊎-elim (λ w. (omega arith, omega arith, omega arith)) (λ w. (omega arith, omega arith, omega arith)) (c .if1 .came)
 
--- it lies at the start of the memory
-lies : (c : tie.After-n) →
-    let n = c .n .given .0 .0 in
-    let w = c .before .before .before in
-    let a = w .before .before .before .before .args in
-    let memory = w .write-segment .last .1 .1 .0 in
-    (n ≤ length memory) × (take n memory ≡ segmentBlock (segmentAt (a .info .now) (a .index)))
-lies c =
-    let w = c .before .before .before in
-    let laid = laid-counted (writes (w .before .before .before .before)) (w .write-segment .ensures) (c .n .given .1) in
-    (laid-within laid, laid-start laid)
+-- so it is the piece of 256
+piece : (c : tie.Joined1) →
+    let a = c .before .before .before .args in
+    let rest = drop (256 * a .index) (a .blocks .now) in
+    take (c .if1 .end - 256 * a .index) rest ≡ take 256 rest
+piece c =
+    let a = c .before .before .before .args in
+    let rest = drop (256 * a .index) (a .blocks .now) in
+    let long : c .if1 .end - 256 * a .index ≡ min 256 (length rest) = rw length-drop (cut c .2) in
+    rw long (take-min 256 rest)
 
--- the characters that are printed are its own
+-- its characters are printed
 printed : (c : tie.After-slice-known2) →
     let p = c .before .before in
-    let a = p .before .before .before .before .before .before .before .before .before .before .before .args in
-    Laid (flatMap shown (segmentBlock (segmentAt (a .info .now) (a .index)))) (p .put-shown .result) (a .out .now) (p .put-shown .last .1 .0)
+    let a = p .before .before .before .before .before .before .before .args in
+    Laid (flatMap shown (take 256 (drop (256 * a .index) (a .blocks .now)))) (p .put-shown .result) (a .out .now) (p .put-shown .last .1 .0)
 printed c =
     let p = c .before .before in
-    rw (lies (p .before .before .before .before) .1) at (p .put-shown .ensures)
+    rw (piece (p .before .before .before .before)) at (p .put-shown .ensures)
 
 -- and leave room for LF
 bound : (c : tie.After-slice-known2) → c .before .before .put-shown .result ≤ 1280
 bound c =
-    let s = c .before .before .before .before .before .before .before .before .before .before .before .before .before in
-    rw (printed c .counts) (block-shown (s .args .info .now) (s .args .index) (s .pre .1))
+    let a = c .before .before .before .before .before .before .before .before .before .args in
+    let rest = drop (256 * a .index) (a .blocks .now) in
+    omega (arith, printed c .counts, flat-bound shown 5 shown-length (take 256 rest), length-take 256 rest)
 
-slice-aggregate-write-segment : tie.Need-slice-aggregate-write-segment
-slice-aggregate-write-segment c = search needs
+mul-from : tie.Need-mul-from
+mul-from c = search needs
 
-write-segment-requires : tie.Need-write-segment-requires
-write-segment-requires c κs = search needs
+sub-rest : tie.Need-sub-rest
+sub-rest c = search needs
 
-enum-known-n : tie.Need-enum-known-n
-enum-known-n c = search needs
+add-end : tie.Need-add-end
+add-end c = search needs
 
-enum-told : tie.Need-enum-told
-enum-told c = search needs
+sub-put-shown : tie.Need-sub-put-shown
+sub-put-shown c = omega (arith, cut (c .before))
 
-returns : tie.Need-returns
-returns c =
-    let w = c .before .before .before in
-    absurd (laid-never (writes (w .before .before .before .before)) (w .write-segment .ensures) (c .enum-told .given .1))
+part-put-shown-start : tie.Need-part-put-shown-start
+part-put-shown-start c = omega (arith, cut (c .before))
 
-array-share-prefix-block : tie.Need-array-share-prefix-block
-array-share-prefix-block c = lies (c .before) .0
-
-slice-aggregate-put-shown : tie.Need-slice-aggregate-put-shown
-slice-aggregate-put-shown c = sym (length-take-le _ _ (lies (c .before .before) .0))
+part-put-shown-end : tie.Need-part-put-shown-end
+part-put-shown-end c = omega (arith, cut (c .before))
 
 put-shown-requires : tie.Need-put-shown-requires
 put-shown-requires c κs =
-    let n = c .before .before .before in
-    let s = n .before .before .before .before .before .before .before in
-    rw (lies n .1) (omega (arith, segment-short (s .args .info .now) (s .args .index) (s .pre .1)))
+    let j = c .before .before .before in
+    let a = j .before .before .before .args in
+    rw (piece j) (omega (arith, length-take 256 (drop (256 * a .index) (a .blocks .now))))
 
 slice-write-out : tie.Need-slice-write-out
 slice-write-out c = omega (arith, bound c, laid-length (printed c) (omega (arith, bound c)))
@@ -85,22 +84,21 @@ add-result c = omega (arith, bound c)
 same-length : tie.Need-same-length
 same-length c = search needs
 
-returns-2 : tie.Need-returns-2
-returns-2 c = laid-snoc _ _ (printed c) (omega (arith, bound c)) refl
+returns : tie.Need-returns
+returns c = laid-snoc _ _ (printed c) (omega (arith, bound c)) refl
 
 pub put-printed-spec : {M : Type 1} → statement M
 put-printed-spec =
     tie.close
     (tie.spec
-    slice-aggregate-write-segment
-    write-segment-requires
-    enum-known-n
-    enum-told
-    returns
-    array-share-prefix-block
-    slice-aggregate-put-shown
+    mul-from
+    sub-rest
+    add-end
+    sub-put-shown
+    part-put-shown-start
+    part-put-shown-end
     put-shown-requires
     slice-write-out
     add-result
     same-length
-    returns-2)
+    returns)
