@@ -1,13 +1,13 @@
 -- The device's steps: a step that is not refused leaves a state in range, an unread block is never sent again, and which replies a verdict comes from.
-use mathlib.Core.Bool.{true, false, not, false≢true, _&&_, _||_, and-eq-true-iff}
+use mathlib.Core.Bool.{true, false, not, false≢true, _&&_, _||_}
 use mathlib.Core.List.{List}
 use mathlib.Core.Logic.{_⊎_, inl, inr}
 use mathlib.Core.Path.{_≡_, refl}
 use Prim.Native.Nat.{ℕ, _+_, _≤_}
-use borrow.Author.Tests.{eqb-true, ltb-false, not-false}
+use borrow.Author.Tests.{eqb-true, ltb-false}
 use lib.Dec.{ltb, eqb}
 use Rattle.line.specs.Answer.{done}
-use Rattle.line.proofs.OutcomeLaws.{then-done, map-done, passed, choice}
+use Rattle.line.proofs.OutcomeLaws.{map-done, passed, choice}
 use Rattle.journal.specs.Encoding.{allLegal}
 use Rattle.journal.specs.Walk.{decode}
 use Rattle.reply.specs.Reading.{replyRead}
@@ -15,7 +15,7 @@ use Rattle.reply.specs.declared.Meaning.the-variants.{IdRequest, Acceptance, Ac
 use Rattle.reply.specs.declared.Reply.{Reply}
 use Rattle.reply.specs.declared.Reply.the-variants.{Unrecognized}
 use Rattle.device.specs.Reaction.{blocksIn, gives, moves, sends, Move, _says_}
-use Rattle.device.specs.Step.{exists, Sent, sent, settingsInRange, started, stepInRange, stepped}
+use Rattle.device.specs.Step.{exists, Sent, settingsInRange, started, stepInRange, stepped}
 use Rattle.device.specs.declared.state.Given.the-variants as Giving
 use Rattle.device.specs.declared.state.Place.{Place}
 use Rattle.device.specs.declared.state.Settings.{Settings}
@@ -27,6 +27,7 @@ use Rattle.device.specs.declared.state.Verdict.the-variants.{Accepted, R
 use Rattle.journal.proofs.EncodingLaws.{decode-legal}
 use Rattle.device.proofs.PlaceLaws.{moves-exist}
 use Rattle.device.proofs.RangeLaws.{moves-in-range}
+use Rattle.device.proofs.StepLaws.{stepped-passes}
 
 -- ── States in range ──
 
@@ -43,16 +44,10 @@ moves-within retries ts good step r w =
 -- a step that is not refused leaves a state in range
 pub step-in-range : (s : State) (settings : Settings) (job reply : List ℕ) (room : ℕ) (x : Sent) → stepped s settings job reply room ≡ done x →
     (stepInRange (settings .retries) (x .move .next) ≡ true) × ((ts : List (List ℕ)) → decode job ≡ done ts → exists ts (x .move .next) ≡ true)
-unfolding stepped
 step-in-range s settings job reply room x h =
-    let (tests, h₁) = passed (not (settingsInRange settings && stepInRange (settings .retries) (s .step))) _ _ _ h in
-    let (_, range) = and-eq-true-iff (settingsInRange settings) (stepInRange (settings .retries) (s .step)) .0 (not-false _ tests) in
-    let (_, h₂) = passed (ltb room 256) _ _ _ h₁ in
-    let (ts, read, h₃) = then-done (decode job) _ x h₂ in
-    let (there, h₄) = passed (not (exists ts (s .step))) _ _ _ h₃ in
-    let m = moves (settings .retries) ts (s .step) (replyRead reply) in
-    let within = moves-within (settings .retries) ts (decode-legal job ts read) (s .step) (replyRead reply) (record { range = range; there = not-false _ there }) in
-    let same : sent settings ts m ≡ x = cc in
+    let (ts, passes, same) = stepped-passes s settings job reply room x h in
+    let within = moves-within (settings .retries) ts (decode-legal job ts (passes .read)) (s .step) (replyRead reply) (record { range = passes .range; there = passes .there }) in
+    let read = passes .read in
     rw (← same) (within .range, λ us e. let one : us ≡ ts = cc in rw one (within .there))
 
 -- a start that is not refused leaves a state in range

@@ -1,3 +1,4 @@
 pub mod Reaction
 pub mod Step
 pub mod Bound
+pub mod Inner

@@ -16,31 +16,27 @@ use journal::record::check;
 use line::Refusal;
 use line::Written;
 use reply::read;
+ghost use mathlib.Core.Bool.{true};
 ghost use mathlib.Core.Path.{_≡_};
+ghost use Prim.Native.Nat.{_≤_};
 ghost use lib.ListN.{length};
+ghost use Rattle.line.specs.Answer.{done, mapDone, output, writtenAs};
+ghost use Rattle.line.specs.Password.{passwordInRange};
+ghost use Rattle.journal.specs.Walk.{decode};
+ghost use Rattle.device.specs.Inner.{tested};
 ghost use Rattle.device.specs.Reaction.{moveAs};
-ghost use Rattle.device.specs.Step.{Steps, answered, started, stepped};
+ghost use Rattle.device.specs.Step.{Steps, answered, exists, sent, started, stepped};
 ghost use Rattle.device.specs.declared.state.Step.the-variants as Variants;
 
 // The start of a call for a job, a journal lent at its exact length: the first string and state.
 pub fn start(settings: Settings, job: &[u8], out: &mut [u8]) -> Stepped
     ensures { λ r. ⌜ Steps (started settings (now (job .entry)) (length (now (out .entry)))) Variants.Stopped r (now (out .entry)) (now (out .exit)) ⌝ }
 {
-    let password = settings.password;
-    if !settings_in_range(settings) {
-        return answer(Written::Refused(Refusal::Range), goes(Step::Stopped));
+    let tested = test(settings, Step::Stopped, job, out.len());
+    match tested {
+        Written::Count(_) => send(settings, job, goes(Step::Opening(first())), out),
+        Written::Refused(_) => answer(tested, goes(Step::Stopped)),
     }
-    if out.len() < ROOM {
-        return answer(Written::Refused(Refusal::Size), goes(Step::Stopped));
-    }
-    let checked = check(job);
-    let Written::Count(_) = checked else {
-        return answer(checked, goes(Step::Stopped));
-    };
-    let next = goes(Step::Opening(first()));
-    let sending = next.step;
-    let n = put_string(job, password, sending, out);
-    answer(Written::Count(n), next)
 }
 
 // What the device does with a reply as it came off the line; the empty string where nothing came.
@@ -49,24 +45,46 @@ pub fn step(state: State, settings: Settings, job: &[u8], reply: &[u8], out: &mu
 {
     let step = state.step;
     let retries = settings.retries;
-    let password = settings.password;
+    let tested = test(settings, step, job, out.len());
+    match tested {
+        Written::Count(count) => {
+            let next = moves(retries, job, count, step, read(reply));
+            send(settings, job, next, out)
+        }
+        Written::Refused(_) => answer(tested, goes(step)),
+    }
+}
+
+// How many transactions the job has, or why the call is refused.
+fn test(settings: Settings, step: Step, job: &[u8], room: usize) -> Written
+    ensures { λ r. ⌜ writtenAs r ≡ mapDone length (tested settings step (now (job .entry)) room) ⌝ }
+{
+    let retries = settings.retries;
     if !settings_in_range(settings) {
-        return answer(Written::Refused(Refusal::Range), goes(step));
+        return Written::Refused(Refusal::Range);
     }
     if !step_in_range(retries, step) {
-        return answer(Written::Refused(Refusal::Range), goes(step));
+        return Written::Refused(Refusal::Range);
     }
-    if out.len() < ROOM {
-        return answer(Written::Refused(Refusal::Size), goes(step));
+    if room < ROOM {
+        return Written::Refused(Refusal::Size);
     }
     let checked = check(job);
     let Written::Count(count) = checked else {
-        return answer(checked, goes(step));
+        return checked;
     };
     if !place_exists(job, count, step) {
-        return answer(Written::Refused(Refusal::Range), goes(step));
+        return Written::Refused(Refusal::Range);
     }
-    let next = moves(retries, job, count, step, read(reply));
+    checked
+}
+
+// A move, with the string of the step that it leads to.
+fn send(settings: Settings, job: &[u8], next: Move, out: &mut [u8]) -> Stepped
+    requires { ⌜ (passwordInRange (settings .password) ≡ true) × (exists (output (decode (now job))) (next .step) ≡ true) × (256 ≤ length (now out)) ⌝ }
+    ensures { λ r. ⌜ Steps (done (sent settings (output (decode (now (job .entry)))) (moveAs next))) Variants.Stopped r (now (out .entry)) (now (out .exit)) ⌝ }
+{
+    let password = settings.password;
     let sending = next.step;
     let n = put_string(job, password, sending, out);
     answer(Written::Count(n), next)

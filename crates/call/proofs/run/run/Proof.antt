@@ -1,7 +1,7 @@
 -- `run` meets its contract: what the tests refuse is refused with all memory as it was; else the run is played, and demand 3 holds of its inputs.
 use mathlib.Core.Path.{_≡_, sym, ap, _∙_}
 use lib.ListN.{length}
-use Rattle.line.specs.Answer.{done, writtenAs}
+use Rattle.line.specs.Answer.{done, refused, refusalNumber, writtenAs}
 use Rattle.line.specs.declared.answer.Refusal.the-variants.{Size}
 use Rattle.call.specs.Inner.{tested}
 use Rattle.call.proofs.CallLaws.{call-refused, call-short, call-done, call-ready, sound-legal, runs-refused, runs-done}
@@ -14,6 +14,12 @@ counted : (c : tie.After-tested) →
     let a = c .before .before .before .before .before .before .before .before .before .args in
     tested (a .device) (a .central) (a .pagers .now) (a .job .now) (a .journal .now) (a .length) (a .faults .now) ≡ done (c .tested .given .0 .0)
 counted c = sym (c .before .before .test .ensures) ∙ ap writtenAs (c .tested .given .1)
+
+-- or have refused
+refusing : (c : tie.After-tested2) →
+    let a = c .before .before .before .before .before .before .before .before .before .args in
+    tested (a .device) (a .central) (a .pagers .now) (a .job .now) (a .journal .now) (a .length) (a .faults .now) ≡ refused (refusalNumber (c .tested2 .given .0 .0))
+refusing c = sym (c .before .before .test .ensures) ∙ ap writtenAs (c .tested2 .given .1)
 
 test-requires : tie.Need-test-requires
 test-requires c κs = search needs
@@ -55,10 +61,7 @@ same-length-4 : tie.Need-same-length-4
 same-length-4 c = search needs
 
 returns-3 : tie.Need-returns-3
-returns-3 c =
-    let a = c .before .before .before .before .before .before .before .before .before .before .args in
-    let told = ap writtenAs (c .before .tested2 .given .1) in
-    runs-refused _ _ _ (call-refused (a .device) (a .central) (a .pagers .now) (a .job .now) (a .journal .now) (a .length) (a .faults .now) (length (a .verdicts .now)) _ (sym (c .before .before .before .test .ensures) ∙ told))
+returns-3 c = runs-refused _ _ _ (call-refused _ _ _ _ _ _ _ _ _ (refusing (c .before)))
 
 pub run-spec : {M : Type 1} → statement M
 run-spec =
