@@ -8,10 +8,10 @@ use lib.ListN.{length, take, set, getD}
 use Rattle.line.specs.Parity.{flipTop}
 use Rattle.device.specs.Reaction.{verdictNumber}
 use Rattle.device.specs.declared.state.Verdict.{Verdict}
-use Rattle.call.specs.Faults.{damage, garbled}
+use Rattle.demand.specs.Faults.{damage, garbled}
 use Rattle.call.specs.Inner.{Arrives}
-use Rattle.call.specs.Run.{hit}
-use Rattle.call.proofs.FaultLaws.{hit-fault}
+use Rattle.demand.specs.Run.{hit}
+use Rattle.demand.proofs.FaultLaws.{hit-fault}
 
 -- a string that is not hit arrives whole
 pub arrives-whole : (fate count : ℕ) (memory : List ℕ) → fate ≡ 0 → count ≤ length memory → Arrives fate (take count memory) count memory

@@ -28,16 +28,16 @@ use Rattle.device.specs.declared.state.Step.the-variants.{Opening, Stopped}
 use Rattle.device.specs.declared.state.Stepped as DeviceStepped
 use Rattle.device.specs.declared.state.Verdict.the-variants.{Unsent}
 use Rattle.call.specs.Call.{Played, Runs, called, fault, inputsOf, played}
-use Rattle.call.specs.Demand.{Fair, Demand3}
-use Rattle.call.specs.Faults.{faulted}
+use Rattle.demand.specs.Demand.{Fair, Demand3}
+use Rattle.demand.specs.Faults.{faulted}
 use Rattle.call.specs.Inner.{Begins, Plays, Ready, Sound, endsInRange, inputsIn, tested}
-use Rattle.call.specs.Run.{Inputs, final}
+use Rattle.demand.specs.Run.{Inputs, final}
 use Rattle.call.specs.declared.run.Ran.the-variants.{Done, Refused}
 use Rattle.call.specs.declared.run.Totals.{Totals}
-use Rattle.call.proofs.Demand.{demand3}
+use Rattle.demand.proofs.Demand.{demand3}
 use Rattle.call.proofs.ExchangeLaws.{count-told}
-use Rattle.call.proofs.FaultLaws.{faults-fair}
-use Rattle.call.proofs.Instance.{Legal}
+use Rattle.demand.proofs.FaultLaws.{faults-fair}
+use Rattle.demand.proofs.Instance.{Legal}
 
 -- ── The beginning ──
 

@@ -30,9 +30,9 @@ use Rattle.device.specs.declared.state.Stepped as DeviceStepped
 use Rattle.device.specs.declared.state.Verdict.{Verdict}
 use Rattle.reply.specs.Reading.{replyRead}
 use Rattle.call.specs.Call.{inputsOf}
-use Rattle.call.specs.Faults.{damages}
+use Rattle.demand.specs.Faults.{damages}
 use Rattle.call.specs.Inner.{Sound, Holds, Exchanges, arrives, endsOf}
-use Rattle.call.specs.Run.{Damage, Inputs, Ends, string, answer, hit, responds, follows, noted, counted, exchange}
+use Rattle.demand.specs.Run.{Damage, Inputs, Ends, string, answer, hit, responds, follows, noted, counted, exchange}
 use Rattle.call.specs.declared.exchange.Saved.{Saved}
 
 -- what was counted has this length

@@ -45,13 +45,13 @@ use Rattle.device.specs.declared.state.Step.the-variants.{Opening, Logon as Log
 use Rattle.device.specs.declared.state.Verdict.{Verdict}
 use Rattle.device.specs.declared.state.Verdict.the-variants.{Unsent}
 use Rattle.call.specs.Call.{inputsOf}
-use Rattle.call.specs.Faults.{damages, damagesFrom, faulted}
+use Rattle.demand.specs.Faults.{damages, damagesFrom, faulted}
 use Rattle.call.specs.Inner.{Exchanges, Holds, Plays, Sound, endsOf, unsent}
-use Rattle.call.specs.Run.{Damage, hit, Inputs, Ends, start, string, responds, exchange, after, mostTransmissions, final}
+use Rattle.demand.specs.Run.{Damage, hit, Inputs, Ends, start, string, responds, exchange, after, mostTransmissions, final}
 use Rattle.call.specs.declared.exchange.Saved.{Saved}
-use Rattle.call.proofs.FaultLaws.{fault-step}
-use Rattle.call.proofs.RunLaws.{after-rests}
-use Rattle.call.proofs.Stops.{exchange-falls}
+use Rattle.demand.proofs.FaultLaws.{fault-step}
+use Rattle.demand.proofs.RunLaws.{after-rests}
+use Rattle.demand.proofs.Stops.{exchange-falls}
 
 -- ── The journal grows ──
 

@@ -16,9 +16,9 @@ use Rattle.central.specs.declared.state.Settings as CentralSettings
 use Rattle.device.specs.Reaction.{verdictNumber}
 use Rattle.device.specs.Step as DeviceStep
 use Rattle.device.specs.declared.state.Settings as DeviceSettings
-use Rattle.call.specs.Demand.{Fair, Demand3}
-use Rattle.call.specs.Faults.{faulted}
-use Rattle.call.specs.Run.{Inputs, Damages, Outcome as Result, run}
+use Rattle.demand.specs.Demand.{Fair, Demand3}
+use Rattle.demand.specs.Faults.{faulted}
+use Rattle.demand.specs.Run.{Inputs, Damages, Outcome as Result, run}
 use Rattle.call.specs.declared.run.Ran.{Ran}
 use Rattle.call.specs.declared.run.Ran.the-variants.{Done, Refused}
 use Rattle.call.specs.declared.run.Totals.{Totals}

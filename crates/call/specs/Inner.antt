@@ -18,8 +18,8 @@ use Rattle.device.specs.declared.state.Settings as DeviceSettings
 use Rattle.device.specs.declared.state.Verdict.{Verdict}
 use Rattle.device.specs.declared.state.Verdict.the-variants.{Unsent}
 use Rattle.call.specs.Call.{fault, inputsOf}
-use Rattle.call.specs.Faults.{damage}
-use Rattle.call.specs.Run.{hit, Inputs, Ends, start, string}
+use Rattle.demand.specs.Faults.{damage}
+use Rattle.demand.specs.Run.{hit, Inputs, Ends, start, string}
 use Rattle.call.specs.declared.exchange.Saved.{Saved}
 use Rattle.call.specs.declared.run.Totals.{Totals}
 

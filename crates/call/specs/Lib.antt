@@ -1,6 +1,2 @@
-pub mod Run
-pub mod Clean
-pub mod Demand
-pub mod Faults
 pub mod Call
 pub mod Inner

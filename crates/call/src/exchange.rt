@@ -14,9 +14,9 @@ ghost use Rattle.device.specs.Reaction.{verdictNumber};
 ghost use Rattle.device.specs.Step as DeviceStep;
 ghost use Rattle.device.specs.declared.state.Verdict as Verdicts;
 ghost use Rattle.call.specs.Call.{inputsOf};
-ghost use Rattle.call.specs.Faults.{damages};
+ghost use Rattle.demand.specs.Faults.{damages};
 ghost use Rattle.call.specs.Inner.{Exchanges, Holds, Sound, arrives, endsOf};
-ghost use Rattle.call.specs.Run as Run;
+ghost use Rattle.demand.specs.Run as Run;
 
 // Both ends between two transmissions, and the length of the string that the device has put out.
 pub struct Saved {

@@ -13,9 +13,9 @@ ghost use lib.ListN as ListN;
 ghost use Rattle.device.specs.Reaction.{verdictNumber};
 ghost use Rattle.device.specs.declared.state.Verdict.the-variants.{Unsent};
 ghost use Rattle.call.specs.Call.{Runs, called};
-ghost use Rattle.call.specs.Faults.{faulted};
+ghost use Rattle.demand.specs.Faults.{faulted};
 ghost use Rattle.call.specs.Inner.{Begins, Plays, Ready, inputsIn};
-ghost use Rattle.call.specs.Run.{final};
+ghost use Rattle.demand.specs.Run.{final};
 
 // What a run comes to: the strings that the device put out, and the journal's new length.
 pub struct Totals {

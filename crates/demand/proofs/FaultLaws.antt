@@ -15,16 +15,16 @@ use Rattle.line.proofs.OutcomeLaws.{choice}
 use Rattle.central.proofs.HearingLaws.{flipped-noise}
 use Rattle.central.specs.Reaction.{Answer, nothing, idRequest, acceptance, ack, nak, rs, hangUp, answerText}
 use Rattle.device.proofs.StringLaws.{string-seven}
-use Rattle.call.specs.Demand.{Replaced, Unheard, NoReply, FairAt, FairFor, Fair}
-use Rattle.call.specs.Faults.{garbled, damage, damages, damagesFrom, faulted}
-use Rattle.call.specs.Run.{Damage, whole, other, hit, Inputs, Ends, start, string, answer, responds, exchange, after, mostTransmissions}
-use Rattle.call.specs.Run as Run
-use Rattle.call.proofs.CentralFollows.{both-idle}
-use Rattle.call.proofs.Instance.{Legal}
-use Rattle.call.proofs.DeviceFollows.{same-opening, same-exists}
-use Rattle.call.proofs.Model.{World}
-use Rattle.call.proofs.RunFollows.{SameEnds, ends, exchange-same}
-use Rattle.call.proofs.RunLaws.{clean-fair}
+use Rattle.demand.specs.Demand.{Replaced, Unheard, NoReply, FairAt, FairFor, Fair}
+use Rattle.demand.specs.Faults.{garbled, damage, damages, damagesFrom, faulted}
+use Rattle.demand.specs.Run.{Damage, whole, other, hit, Inputs, Ends, start, string, answer, responds, exchange, after, mostTransmissions}
+use Rattle.demand.specs.Run as Run
+use Rattle.demand.proofs.CentralFollows.{both-idle}
+use Rattle.demand.proofs.Instance.{Legal}
+use Rattle.demand.proofs.DeviceFollows.{same-opening, same-exists}
+use Rattle.demand.proofs.Model.{World}
+use Rattle.demand.proofs.RunFollows.{SameEnds, ends, exchange-same}
+use Rattle.demand.proofs.RunLaws.{clean-fair}
 
 -- ── A fault at a time ──
 

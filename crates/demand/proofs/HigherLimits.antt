@@ -13,10 +13,10 @@ use Rattle.block.specs.Block.{Segment}
 use Rattle.central.specs.Reaction.{Answer, nothing, idRequest, acceptance, ack, nak, rs, hangUp}
 use Rattle.device.specs.declared.state.Verdict.{Verdict}
 use Rattle.device.specs.declared.state.Verdict.the-variants.{Accepted, Rejected, Unconfirmed, Deferred}
-use Rattle.call.proofs.Messages.{Txn, Rules, Limits, Call, silence, noise, hello, login, bye, blk, _is_, Harm, whole, lost, garbled, Harms, harms, arrives, returns, next}
-use Rattle.call.proofs.Model.{Step, idle, closed, logon, blocks, Reply, failure, hears, opening, loggingOn, closing, sending, stopped, Device, device, transmits, begin, acked, reads, World, world, answered, sent, exchange, run, start, played}
-use Rattle.call.specs.Demand.{decided}
-use Rattle.call.proofs.Tests.{deviceOf, branch, looser, branches, decided-append}
+use Rattle.demand.proofs.Messages.{Txn, Rules, Limits, Call, silence, noise, hello, login, bye, blk, _is_, Harm, whole, lost, garbled, Harms, harms, arrives, returns, next}
+use Rattle.demand.proofs.Model.{Step, idle, closed, logon, blocks, Reply, failure, hears, opening, loggingOn, closing, sending, stopped, Device, device, transmits, begin, acked, reads, World, world, answered, sent, exchange, run, start, played}
+use Rattle.demand.specs.Demand.{decided}
+use Rattle.demand.proofs.Tests.{deviceOf, branch, looser, branches, decided-append}
 
 -- the decisions of a device
 unfoldable pub count : Device → ℕ

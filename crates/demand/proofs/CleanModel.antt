@@ -5,7 +5,7 @@ use Prim.Native.Nat.{ℕ}
 use Rattle.line.specs.Test.{if_then_else_}
 use Rattle.device.specs.declared.state.Verdict.{Verdict}
 use Rattle.device.specs.declared.state.Verdict.the-variants.{Accepted, Rejected, Unsent}
-use Rattle.call.proofs.Messages.{Txn, Rules}
+use Rattle.demand.proofs.Messages.{Txn, Rules}
 
 module _ (R : Rules) where
   open Rules R using (J, admits, put, match)

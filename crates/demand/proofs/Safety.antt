@@ -10,15 +10,15 @@ use native.Mathlib.Omega.{arith}
 use Prim.Native.Nat.{ℕ, _<_, _≤_}
 use Rattle.device.specs.declared.state.Verdict.{Verdict}
 use Rattle.device.specs.declared.state.Verdict.the-variants.{Unsent}
-use Rattle.call.proofs.Messages.{Txn, Rules, Limits, Harms}
-use Rattle.call.proofs.Model.{device, World, world, played, haltsAt, outcome}
-use Rattle.call.proofs.CleanModel.{verdicts, cleanVerdicts, cleanJournal}
-use Rattle.call.proofs.Claim.{Laws, WellCut, Agrees}
-use Rattle.call.specs.Demand.{decides, decided}
-use Rattle.call.proofs.Tests.{deviceOf, decided-append, decided-unsent}
-use Rattle.call.proofs.HigherLimits.{count, decides-more}
-use Rattle.call.proofs.Invariant.{Ended, quit, broke, undamaged, EndOf, played-end}
-use Rattle.call.proofs.Summary.{summary, clean-verdicts-are, clean-journal-is, unmatched-verdicts, unmatched-journal, agrees}
+use Rattle.demand.proofs.Messages.{Txn, Rules, Limits, Harms}
+use Rattle.demand.proofs.Model.{device, World, world, played, haltsAt, outcome}
+use Rattle.demand.proofs.CleanModel.{verdicts, cleanVerdicts, cleanJournal}
+use Rattle.demand.proofs.Claim.{Laws, WellCut, Agrees}
+use Rattle.demand.specs.Demand.{decides, decided}
+use Rattle.demand.proofs.Tests.{deviceOf, decided-append, decided-unsent}
+use Rattle.demand.proofs.HigherLimits.{count, decides-more}
+use Rattle.demand.proofs.Invariant.{Ended, quit, broke, undamaged, EndOf, played-end}
+use Rattle.demand.proofs.Summary.{summary, clean-verdicts-are, clean-journal-is, unmatched-verdicts, unmatched-journal, agrees}
 
 -- a decided verdict of a run is the clean one
 decided-clean : (R : Rules) (job : List Txn) (j : R .J) {vs : List Verdict} {j′ : R .J} → Agrees R job j vs j′ → (i : ℕ) → i < decided vs →

@@ -28,15 +28,15 @@ use Rattle.device.specs.Reaction.{moves, stringText}
 use Rattle.device.specs.declared.state.Step.{Step}
 use Rattle.device.specs.declared.state.Step.the-variants.{Stopped}
 use Rattle.device.specs.declared.state.Verdict.{Verdict}
-use Rattle.call.specs.Demand.{Replaced, Unheard, NoReply, FairAt, FairFor}
-use Rattle.call.specs.Run.{Damage, noted, hit, Damages, next, Inputs, Ends, answer, responds, follows, exchange, after}
-use Rattle.call.specs.Run as Run
-use Rattle.call.proofs.CentralFollows.{Says, says-hello, says-login, says-block, says-bye, SameCentral, SameReply, hears-same, noise-same, silence-same}
-use Rattle.call.proofs.DeviceFollows.{readAs, Same, same-opening, same-logon, same-sending, same-closing, same-stopped, moves-same, same-exists, same-block}
-use Rattle.call.proofs.Messages.{Call, hello, login, bye, blk, Harm, whole, lost, garbled, Harms, harms, arrives, returns}
-use Rattle.call.proofs.Instance.{Legal, model, limits}
-use Rattle.call.proofs.Model.{hears, Device, World, world, answered, sent}
-use Rattle.call.proofs.Model as Model
+use Rattle.demand.specs.Demand.{Replaced, Unheard, NoReply, FairAt, FairFor}
+use Rattle.demand.specs.Run.{Damage, noted, hit, Damages, next, Inputs, Ends, answer, responds, follows, exchange, after}
+use Rattle.demand.specs.Run as Run
+use Rattle.demand.proofs.CentralFollows.{Says, says-hello, says-login, says-block, says-bye, SameCentral, SameReply, hears-same, noise-same, silence-same}
+use Rattle.demand.proofs.DeviceFollows.{readAs, Same, same-opening, same-logon, same-sending, same-closing, same-stopped, moves-same, same-exists, same-block}
+use Rattle.demand.proofs.Messages.{Call, hello, login, bye, blk, Harm, whole, lost, garbled, Harms, harms, arrives, returns}
+use Rattle.demand.proofs.Instance.{Legal, model, limits}
+use Rattle.demand.proofs.Model.{hears, Device, World, world, answered, sent}
+use Rattle.demand.proofs.Model as Model
 
 -- ── Damage ──
 

@@ -28,11 +28,11 @@ use Rattle.device.specs.declared.state.Step.{Step}
 use Rattle.device.specs.declared.state.Step.the-variants.{Opening, Logon, Sending, Closing, Stopped}
 use Rattle.device.specs.declared.state.Verdict.{Verdict}
 use Rattle.device.specs.declared.state.Verdict.the-variants.{Accepted, Rejected, Unconfirmed, Deferred, Unsent}
-use Rattle.call.specs.Run.{Inputs, noted}
-use Rattle.call.proofs.Messages.{_is_}
-use Rattle.call.proofs.Instance.{model, limits, parts}
-use Rattle.call.proofs.Model.{opening, loggingOn, closing, sending, stopped, Device, device, begin, acked, reads}
-use Rattle.call.proofs.Tests.{branches}
+use Rattle.demand.specs.Run.{Inputs, noted}
+use Rattle.demand.proofs.Messages.{_is_}
+use Rattle.demand.proofs.Instance.{model, limits, parts}
+use Rattle.demand.proofs.Model.{opening, loggingOn, closing, sending, stopped, Device, device, begin, acked, reads}
+use Rattle.demand.proofs.Tests.{branches}
 
 -- ── Answers ──
 

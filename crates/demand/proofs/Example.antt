@@ -19,8 +19,8 @@ use Rattle.central.specs.Reaction.{reacts}
 use Rattle.device.specs.Bound.{jobBlocks}
 use Rattle.device.specs.Reaction.{moves}
 use Rattle.device.specs.declared.state.Verdict.the-variants.{Accepted, Rejected, Unconfirmed, Deferred, Unsent}
-use Rattle.call.specs.Faults.{damagesFrom, faulted}
-use Rattle.call.specs.Run.{Inputs, Outcome, responds, follows, exchange, after, run}
+use Rattle.demand.specs.Faults.{damagesFrom, faulted}
+use Rattle.demand.specs.Run.{Inputs, Outcome, responds, follows, exchange, after, run}
 
 -- 123/ABC
 abbrev stored : List ℕ

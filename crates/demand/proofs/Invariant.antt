@@ -12,12 +12,12 @@ use Rattle.block.specs.Block.{Segment}
 use Rattle.central.specs.Reaction.{Answer, nothing, idRequest, acceptance, ack, nak, rs, hangUp}
 use Rattle.device.specs.declared.state.Verdict.{Verdict}
 use Rattle.device.specs.declared.state.Verdict.the-variants.{Accepted, Rejected, Unconfirmed, Deferred}
-use Rattle.call.specs.Demand.{decides}
-use Rattle.call.proofs.Messages.{last, Txn, Rules, Limits, hello, login, bye, blk, _is_, refused, Harm, whole, lost, garbled, Harms, harms, arrives, returns}
-use Rattle.call.proofs.Model.{Step, idle, closed, logon, blocks, Reply, takes, failure, hears, opening, loggingOn, closing, sending, stopped, Device, device, begin, acked, reads, World, world, answered, sent, exchange, run, start, played, haltsAt}
-use Rattle.call.proofs.CleanModel.{verdict, after, verdicts}
-use Rattle.call.proofs.Claim.{Laws, Pieces, final, piece, WellCut, cut-next}
-use Rattle.call.proofs.Tests.{deviceOf, branch}
+use Rattle.demand.specs.Demand.{decides}
+use Rattle.demand.proofs.Messages.{last, Txn, Rules, Limits, hello, login, bye, blk, _is_, refused, Harm, whole, lost, garbled, Harms, harms, arrives, returns}
+use Rattle.demand.proofs.Model.{Step, idle, closed, logon, blocks, Reply, takes, failure, hears, opening, loggingOn, closing, sending, stopped, Device, device, begin, acked, reads, World, world, answered, sent, exchange, run, start, played, haltsAt}
+use Rattle.demand.proofs.CleanModel.{verdict, after, verdicts}
+use Rattle.demand.proofs.Claim.{Laws, Pieces, final, piece, WellCut, cut-next}
+use Rattle.demand.proofs.Tests.{deviceOf, branch}
 
 -- why a block is refused: f it fits, l it is the last, a the whole is admitted
 why-refused : (f l a : Bool) → not f || (l && not a) ≡ true → (f ≡ false) ⊎ ((l ≡ true) × (a ≡ false))

@@ -12,8 +12,8 @@ use Rattle.device.proofs.BoundLaws.{moves-fall, transmissions-bound}
 use Rattle.device.proofs.DeviceLaws.{Within, moves-within}
 use Rattle.device.specs.Bound.{transmissionsLeft}
 use Rattle.device.specs.declared.state.Step.the-variants.{Stopped}
-use Rattle.call.specs.Run.{Damage, Damages, next, hit, Inputs, Ends, start, answer, follows, exchange, after, mostTransmissions, final}
-use Rattle.call.proofs.RunLaws.{after-rests}
+use Rattle.demand.specs.Run.{Damage, Damages, next, hit, Inputs, Ends, start, answer, follows, exchange, after, mostTransmissions, final}
+use Rattle.demand.proofs.RunLaws.{after-rests}
 
 -- a run whose job is legal
 module _ (i : Inputs) (good : allLegal (i .job) ≡ true) where

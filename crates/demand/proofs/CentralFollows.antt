@@ -22,13 +22,13 @@ use Rattle.central.specs.Hearing as Hearing
 use Rattle.central.specs.Reaction.{ack, rs, Central, Reaction, at, fails, reacts, takes}
 use Rattle.central.specs.declared.state.Stage.{Stage}
 use Rattle.central.specs.declared.state.Stage.the-variants.{Idle, Logon, Block, Closed}
-use Rattle.call.specs.Clean.{meets, matching}
-use Rattle.call.specs.Run.{Inputs}
-use Rattle.call.proofs.Messages.{Call, silence, noise, hello, login, bye, blk}
-use Rattle.call.proofs.Instance.{model, limits}
-use Rattle.call.proofs.Model.{Step, idle, closed, logon, blocks, Reply, failure, hears}
-use Rattle.call.proofs.Model as Model
-use Rattle.call.proofs.Tests.{branches}
+use Rattle.demand.specs.Clean.{meets, matching}
+use Rattle.demand.specs.Run.{Inputs}
+use Rattle.demand.proofs.Messages.{Call, silence, noise, hello, login, bye, blk}
+use Rattle.demand.proofs.Instance.{model, limits}
+use Rattle.demand.proofs.Model.{Step, idle, closed, logon, blocks, Reply, failure, hears}
+use Rattle.demand.proofs.Model as Model
+use Rattle.demand.proofs.Tests.{branches}
 
 -- ── What is recognized out of place ──
 

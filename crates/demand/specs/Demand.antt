@@ -13,8 +13,8 @@ use Rattle.device.specs.declared.state.Verdict.{Verdict}
 use Rattle.device.specs.declared.state.Verdict.the-variants.{Accepted, Rejected, Unconfirmed, Deferred, Unsent}
 use Rattle.reply.specs.Reading.{replyRead}
 use Rattle.reply.specs.declared.Reply.the-variants.{Unrecognized}
-use Rattle.call.specs.Clean.{cleanVerdicts, cleanJournal}
-use Rattle.call.specs.Run.{Damage, whole, nothing, other, Damages, next, Inputs, Ends, start, string, answer, exchange, mostTransmissions, final, run}
+use Rattle.demand.specs.Clean.{cleanVerdicts, cleanJournal}
+use Rattle.demand.specs.Run.{Damage, whole, nothing, other, Damages, next, Inputs, Ends, start, string, answer, exchange, mostTransmissions, final, run}
 
 -- ── Damage that is allowed ──
 

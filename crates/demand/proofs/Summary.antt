@@ -12,12 +12,12 @@ use Prim.Native.Nat.{ℕ, zero, suc, _+_, _-_, _<_}
 use Rattle.line.specs.Test.{if_then_else_}
 use Rattle.device.specs.declared.state.Verdict.{Verdict}
 use Rattle.device.specs.declared.state.Verdict.the-variants.{Unconfirmed, Unsent}
-use Rattle.call.proofs.Messages.{Txn, Rules}
-use Rattle.call.proofs.CleanModel.{verdict, after, verdicts, cleanVerdicts, cleanJournal}
-use Rattle.call.proofs.Claim.{Agrees}
-use Rattle.call.specs.Demand.{decides, decided}
-use Rattle.call.proofs.Tests.{branch, decided-append, decided-unsent}
-use Rattle.call.proofs.Invariant.{verdicts-append, Ended, quit, broke}
+use Rattle.demand.proofs.Messages.{Txn, Rules}
+use Rattle.demand.proofs.CleanModel.{verdict, after, verdicts, cleanVerdicts, cleanJournal}
+use Rattle.demand.proofs.Claim.{Agrees}
+use Rattle.demand.specs.Demand.{decides, decided}
+use Rattle.demand.proofs.Tests.{branch, decided-append, decided-unsent}
+use Rattle.demand.proofs.Invariant.{verdicts-append, Ended, quit, broke}
 
 module _ (R : Rules) where
   open Rules R using (J, admits, match)

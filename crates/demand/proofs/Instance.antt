@@ -17,11 +17,11 @@ use Rattle.block.specs.Segmentation.{segment, Joins, last, more, segmentation}
 use Rattle.block.specs.declared.frame.Ending.the-variants.{Etx}
 use Rattle.journal.specs.Encoding.{allLegal}
 use Rattle.admission.specs.Content.{admits}
-use Rattle.call.specs.Clean.{meets, stored, judged, matching, cleanVerdicts, cleanJournal}
-use Rattle.call.specs.Run.{Inputs}
-use Rattle.call.proofs.Messages.{Blks, Rules, Limits}
-use Rattle.call.proofs.Claim.{Laws, Pieces, final, piece, WellCut, cut-none, cut-next}
-use Rattle.call.proofs.CleanModel as CleanModel
+use Rattle.demand.specs.Clean.{meets, stored, judged, matching, cleanVerdicts, cleanJournal}
+use Rattle.demand.specs.Run.{Inputs}
+use Rattle.demand.proofs.Messages.{Blks, Rules, Limits}
+use Rattle.demand.proofs.Claim.{Laws, Pieces, final, piece, WellCut, cut-none, cut-next}
+use Rattle.demand.proofs.CleanModel as CleanModel
 
 -- a list of blocks as one that is not empty
 abbrev pub parts : List Segment → Blks

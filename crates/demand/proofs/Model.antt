@@ -10,7 +10,7 @@ use Rattle.block.specs.Block.{Segment}
 use Rattle.central.specs.Reaction.{Answer, nothing, idRequest, acceptance, ack, nak, rs, hangUp}
 use Rattle.device.specs.declared.state.Verdict.{Verdict}
 use Rattle.device.specs.declared.state.Verdict.the-variants.{Accepted, Rejected, Unconfirmed, Deferred, Unsent}
-use Rattle.call.proofs.Messages.{Txn, last, Rules, Limits, Call, silence, noise, hello, login, bye, blk, _is_, refused, Harm, Harms, harms, arrives, returns, next, Outcome}
+use Rattle.demand.proofs.Messages.{Txn, last, Rules, Limits, Call, silence, noise, hello, login, bye, blk, _is_, refused, Harm, Harms, harms, arrives, returns, next, Outcome}
 
 -- ── The central ──
 

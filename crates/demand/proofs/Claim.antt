@@ -8,9 +8,9 @@ use Prim.Native.Nat.{ℕ, suc, _<_}
 use Rattle.block.specs.Block.{Segment}
 use Rattle.device.specs.declared.state.Verdict.{Verdict}
 use Rattle.device.specs.declared.state.Verdict.the-variants.{Unconfirmed, Unsent}
-use Rattle.call.specs.Demand.{decides, decided}
-use Rattle.call.proofs.Messages.{last, Txn, Rules}
-use Rattle.call.proofs.CleanModel.{cleanVerdicts, cleanJournal}
+use Rattle.demand.specs.Demand.{decides, decided}
+use Rattle.demand.proofs.Messages.{last, Txn, Rules}
+use Rattle.demand.proofs.CleanModel.{cleanVerdicts, cleanJournal}
 
 -- ── What is asked ──
 

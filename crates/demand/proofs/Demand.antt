@@ -17,20 +17,20 @@ use Rattle.device.specs.declared.state.Step.{Step}
 use Rattle.device.specs.declared.state.Step.the-variants.{Stopped}
 use Rattle.device.specs.declared.state.Verdict.{Verdict}
 use Rattle.device.specs.declared.state.Verdict.the-variants.{Unconfirmed, Unsent}
-use Rattle.call.specs.Clean.{stored, judged, matching, cleanVerdicts, cleanJournal}
-use Rattle.call.specs.Demand.{Fair, decides, decided, verdictAt, limited, shortened, Claim, CleanRun, CleanFirst, Demand3}
-use Rattle.call.specs.Run.{Damages, Inputs, Ends, start, mostTransmissions, final, run}
-use Rattle.call.proofs.CentralFollows.{SameCentral, both-idle, both-logon, both-blocks, both-closed}
-use Rattle.call.proofs.Claim.{WellCut, Agrees}
-use Rattle.call.proofs.CleanModel as CleanModel
-use Rattle.call.proofs.DeviceFollows.{Same, same-opening, same-logon, same-sending, same-closing, same-stopped}
-use Rattle.call.proofs.Instance.{Legal, model, limits, model-laws, legal-cut, clean-verdicts, clean-journal}
-use Rattle.call.proofs.Model.{Device, World, played, haltsAt, toldBy, outcome}
-use Rattle.call.proofs.RunFollows.{harmsOf, SameEnds, ends, after-same}
-use Rattle.call.proofs.RunLaws.{after-counted, clean-fair}
-use Rattle.call.proofs.Safety.{played-agrees, played-kept, played-clean}
-use Rattle.call.proofs.Stops.{run-stops}
-use Rattle.call.proofs.Tests.{branches, deviceOf}
+use Rattle.demand.specs.Clean.{stored, judged, matching, cleanVerdicts, cleanJournal}
+use Rattle.demand.specs.Demand.{Fair, decides, decided, verdictAt, limited, shortened, Claim, CleanRun, CleanFirst, Demand3}
+use Rattle.demand.specs.Run.{Damages, Inputs, Ends, start, mostTransmissions, final, run}
+use Rattle.demand.proofs.CentralFollows.{SameCentral, both-idle, both-logon, both-blocks, both-closed}
+use Rattle.demand.proofs.Claim.{WellCut, Agrees}
+use Rattle.demand.proofs.CleanModel as CleanModel
+use Rattle.demand.proofs.DeviceFollows.{Same, same-opening, same-logon, same-sending, same-closing, same-stopped}
+use Rattle.demand.proofs.Instance.{Legal, model, limits, model-laws, legal-cut, clean-verdicts, clean-journal}
+use Rattle.demand.proofs.Model.{Device, World, played, haltsAt, toldBy, outcome}
+use Rattle.demand.proofs.RunFollows.{harmsOf, SameEnds, ends, after-same}
+use Rattle.demand.proofs.RunLaws.{after-counted, clean-fair}
+use Rattle.demand.proofs.Safety.{played-agrees, played-kept, played-clean}
+use Rattle.demand.proofs.Stops.{run-stops}
+use Rattle.demand.proofs.Tests.{branches, deviceOf}
 
 -- ── What both ends hold at the end ──
 

@@ -8,7 +8,7 @@ use Rattle.admission.specs.Content.{admits}
 use Rattle.central.specs.Reaction.{Rules}
 use Rattle.device.specs.declared.state.Verdict.{Verdict}
 use Rattle.device.specs.declared.state.Verdict.the-variants.{Accepted, Rejected, Unsent}
-use Rattle.call.specs.Run.{Inputs}
+use Rattle.demand.specs.Run.{Inputs}
 
 -- a transaction meets the content rules over the journal so far, room in it included
 abbrev pub meets : Rules → List (List ℕ) → List ℕ → Bool

@@ -4,7 +4,7 @@ use Prim.Native.Nat.{ℕ, _/_, _%_}
 use lib.Dec.{eqb}
 use Rattle.line.specs.Parity.{flipTop}
 use Rattle.line.specs.Test.{if_then_else_}
-use Rattle.call.specs.Run.{Damage, whole, nothing, other, Damages, Inputs, Ends, start, string, answer, exchange}
+use Rattle.demand.specs.Run.{Damage, whole, nothing, other, Damages, Inputs, Ends, start, string, answer, exchange}
 
 -- a string with bit 7 of its first byte flipped
 abbrev pub garbled : List ℕ → List ℕ

@@ -9,8 +9,8 @@ use Rattle.central.specs.Reaction.{reacts}
 use Rattle.device.specs.Reaction.{moves}
 use Rattle.device.specs.declared.state.Step.{Step}
 use Rattle.device.specs.declared.state.Step.the-variants.{Stopped}
-use Rattle.call.specs.Demand.{Replaced, Unheard, NoReply, FairFor}
-use Rattle.call.specs.Run.{Damage, whole, Damages, next, Inputs, Ends, string, answer, responds, follows, counted, exchange, after}
+use Rattle.demand.specs.Demand.{Replaced, Unheard, NoReply, FairFor}
+use Rattle.demand.specs.Run.{Damage, whole, Damages, next, Inputs, Ends, string, answer, responds, follows, counted, exchange, after}
 
 -- ── Rest ──
 

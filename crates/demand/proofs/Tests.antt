@@ -8,8 +8,8 @@ use Prim.Native.Nat.{ℕ, zero, suc, _+_}
 use Rattle.line.specs.Test.{if_then_else_}
 use Rattle.device.specs.declared.state.Verdict.{Verdict}
 use Rattle.device.specs.declared.state.Verdict.the-variants.{Unsent}
-use Rattle.call.proofs.Model.{Device, World, world}
-use Rattle.call.specs.Demand.{decides, decided}
+use Rattle.demand.proofs.Model.{Device, World, world}
+use Rattle.demand.specs.Demand.{decides, decided}
 
 -- the device of a world
 abbrev pub deviceOf : {J : Type 0} → World J → Device
