@@ -5,7 +5,7 @@ use mathlib.Core.Path.{_≡_}
 use Prim.Native.Nat.{ℕ, _+_, _-_}
 use lib.Dec.{leb, ltb, eqb}
 use lib.ListN.{length, take, drop, getD}
-use Rattle.line.specs.Answer.{Outcome, done, refused, refusalNumber}
+use Rattle.line.specs.Answer.{Outcome, done, refused, mapDone, output, refusalNumber}
 use Rattle.line.specs.Character.{STX, ETX, ETB, US, CR, seven, textual}
 use Rattle.line.specs.Test.{if_then_else_, all, same}
 use Rattle.line.specs.Transaction.{endsInCR}
@@ -102,6 +102,11 @@ readBlock s =
     else if not (summing s) then refused 5
     else if not (right (inside s) (endingOf (endingAt s))) then refused 6
     else done (record { info = inside s; ending = endingOf (endingAt s) })
+
+-- the information that is handed back of a string: what it holds, and that it is the very part of the string that follows STX (a place is a block of memory and an offset)
+pub record Handed (o : Outcome Segment) (string : ℕ × ℕ) (info : List ℕ) (part : ℕ × ℕ) : Type 0 where
+  pub holds : info ≡ output (mapDone (λ g. g .info) o)
+  pub follows : (g : Segment) → o ≡ done g → part ≡ (string .0, string .1 + 1)
 
 -- a reader's answer as document 01 gives it: 0 with the ending, or the refusal's number
 abbrev pub readAs : Reading → Outcome Ending

@@ -12,10 +12,11 @@ use line::character::are;
 use line::transaction::ends_in_cr;
 ghost use mathlib.Core.Path.{_≡_};
 ghost use Prim.Native.Nat.{_+_, _≤_};
+ghost use denote.Ref.{ptr};
 ghost use lib.ListN.{length};
 ghost use Rattle.line.specs.Answer.{Wrote, mapDone, output, overlay};
 ghost use Rattle.line.specs.Test.{all};
-ghost use Rattle.block.specs.Block.{blockOf, checkIn, checking, endingCharacter, endingOf, ends, framed, readAs, readBlock, right, summed, summing, writeBlock};
+ghost use Rattle.block.specs.Block.{Handed, blockOf, checkIn, checking, endingCharacter, endingOf, ends, framed, readAs, readBlock, right, summed, summing, writeBlock};
 
 // How a block ends.
 pub enum Ending {
@@ -88,10 +89,10 @@ pub fn read(s: &[u8]) -> Reading
     Reading::Block(ending)
 }
 
-// The information of the block that the string is: the part of it that follows STX. Nothing where
-// it is refused.
+// The information of the block that the string is: the very part of it that follows STX. Nothing
+// where it is refused.
 pub fn information(s: &[u8]) -> &[u8]
-    ensures { λ r. ⌜ now r ≡ output (mapDone (λ g. g .info) (readBlock (now (s .entry)))) ⌝ }
+    ensures { λ r. ⌜ Handed (readBlock (now (s .entry))) (ptr (s .entry)) (now r) (ptr r) ⌝ }
 {
     let Reading::Block(_) = read(s) else {
         return &s[..0];

@@ -1,14 +1,14 @@
--- Laws of a step: one that is not refused leaves a state in range, the array of the state as long as it was, and a well-formed journal.
+-- Laws of a step: one that is not refused leaves a state in range and a well-formed journal.
 use mathlib.Core.Bool.{Bool, true, not, _&&_, and-eq-true-iff}
 use mathlib.Core.List.{List}
-use mathlib.Core.Path.{_≡_, refl, subst, _∙_}
+use mathlib.Core.Path.{_≡_, refl, subst}
 use Prim.Native.Nat.{ℕ, _≤_}
 use native.Mathlib.Omega.{arith}
 use borrow.Author.Tests.{leb-true, le-leb, eqb-true, eq-eqb, not-false}
 use lib.Dec.{leb, ltb}
 use lib.ListN.{length, length-take}
 use Rattle.line.proofs.OutcomeLaws.{map-done, passed}
-use Rattle.line.proofs.OverlayLaws.{overlay-length, overlay-start}
+use Rattle.line.proofs.OverlayLaws.{overlay-start}
 use Rattle.line.specs.Answer.{done, overlay}
 use Rattle.line.specs.Character.{byte, textual}
 use Rattle.line.specs.Password.{passwordInRange}
@@ -32,13 +32,6 @@ shorter-short Idle most n m h e = eq-eqb m 0 (omega (arith, eqb-true n 0 e))
 shorter-short Logon most n m h e = eq-eqb m 0 (omega (arith, eqb-true n 0 e))
 shorter-short Block most n m h e = le-leb m most (omega (arith, leb-true n most e))
 shorter-short Closed most n m h e = eq-eqb m 0 (omega (arith, eqb-true n 0 e))
-
--- information in range is at most L long
-short-length : (stage : Stage) (most n : ℕ) → lengthInRange stage most n ≡ true → n ≤ most
-short-length Idle most n e = omega (arith, eqb-true n 0 e)
-short-length Logon most n e = omega (arith, eqb-true n 0 e)
-short-length Block most n e = leb-true n most e
-short-length Closed most n e = omega (arith, eqb-true n 0 e)
 
 -- a state in range is a central within its rules
 state-within : (s : State) (settings : Settings) (pagers : List ℕ) (ts : List (List ℕ)) → stateInRange settings s ≡ true → Within (rulesOf settings pagers) (centralOf s ts)
@@ -77,12 +70,6 @@ module _ (s : State) (settings : Settings) (pagers buffer string : List ℕ) (ro
   -- it leaves a state in range
   pub step-in-range : stateInRange settings (saved (x .next) (s .pending)) ≡ true
   step-in-range = within-state (x .next) settings pagers (s .pending) (step-reacted .3 .within)
-
-  -- it leaves the array of the unfinished information as long as it was
-  pub step-array : length (s .pending) ≡ 2000 → length (saved (x .next) (s .pending) .pending) ≡ 2000
-  step-array h =
-      let (most, _, _, k) = step-reacted in
-      overlay-length (x .next .pending) (s .pending) (omega (arith, short-length (x .next .stage) (settings .longest) (length (x .next .pending)) (k .within .short))) ∙ h
 
   -- it leaves a well-formed journal, which is read from its bytes laid over the buffer
   pub step-journal : all byte buffer ≡ true → Journal (x .next .journal) × (decodeIn (overlay (encode (x .next .journal)) buffer) (length (encode (x .next .journal))) ≡ done (x .next .journal))

@@ -1,24 +1,25 @@
--- Laws of hearing: what the entry device sends is recognized as meant, an odd first byte is noise, and a block that is heard is right for its ending.
-use mathlib.Core.Bool.{true, false}
+-- Laws of hearing: what the entry device sends is recognized as meant, an odd first byte is noise, a logon has one form, and a block that is heard is right for its ending.
+use mathlib.Core.Bool.{Bool, true, false, false≢true, _&&_, and-eq-true-iff}
 use mathlib.Core.List.{List, [], _∷_, _++_, map}
-use mathlib.Core.Path.{_≡_, refl, ap}
+use mathlib.Core.Path.{_≡_, refl, sym, ap, _∙_}
 use Prim.Native.Nat.{ℕ, _+_, _-_, _≤_, _<_}
 use native.Mathlib.Omega.{arith}
-use borrow.Author.Tests.{le-leb}
-use lib.Dec.{ltb, eqb}
-use lib.ListN.{length, drop, length-append}
-use lib.Seq.{take-at, drop-at}
+use borrow.Author.Tests.{le-leb, leb-true}
+use lib.Dec.{leb, ltb, eqb}
+use lib.ListN.{length, take, drop, length-append, take-append-drop}
+use lib.Seq.{take-at, drop-at, drop-drop}
+use Rattle.line.proofs.AllLaws.{same-equal}
 use Rattle.line.proofs.ParityLaws.{flip-odd, with-off}
 use Rattle.line.specs.Answer.{Outcome, done, refused}
 use Rattle.line.specs.Character.{CR, EOT, ESC, seven, alphanumeric}
 use Rattle.line.specs.Parity.{even, withParity, flipTop, parityOff}
-use Rattle.line.specs.Test.{all, same}
+use Rattle.line.specs.Test.{if_then_else_, all, same}
 use Rattle.line.specs.Text.{bytesOf}
 use Rattle.block.proofs.FrameLaws.{write-read, read-write}
 use Rattle.block.specs.Block.{Segment, blockOf, right, readBlock}
 use Rattle.block.specs.declared.frame.Ending.{Ending}
 use Rattle.line.proofs.OutcomeLaws.{choice}
-use Rattle.central.specs.Hearing.{Heard, silence, noise, hello, bye, logon, block, between, logsOn, heardBlock, recognized, heardText, heard}
+use Rattle.central.specs.Hearing.{Heard, silence, noise, hello, logon, block, between, logsOn, heardBlock, recognized, heardText, heard}
 use Rattle.central.specs.declared.state.Stage.{Stage}
 use Rattle.central.specs.declared.state.Stage.the-variants.{Idle, Logon, Block, Closed}
 
@@ -42,18 +43,8 @@ unfolding heard
 sent-heard stage [] h l s = absurd (omega arith)
 sent-heard stage (c ∷ cs) h l s = ap (heardText stage) (with-off (c ∷ cs) 256 h l)
 
--- CR is heard as hello, in Idle and in Logon
-pub hello-heard : (recognized Idle (CR ∷ []) ≡ hello) × (recognized Logon (CR ∷ []) ≡ hello)
-unfolding recognized same
-hello-heard = (refl, refl)
-
--- EOT CR is heard as the end of the call
-pub bye-heard : recognized Block (EOT ∷ CR ∷ []) ≡ bye
-unfolding recognized same
-bye-heard = refl
-
 -- ESC, 3 to 9 letters or digits and CR are heard as a logon
-text-heard : (text : List ℕ) → 3 ≤ length text → length text ≤ 9 → all alphanumeric text ≡ true → recognized Logon (ESC ∷ text ++ CR ∷ []) ≡ logon text
+pub text-heard : (text : List ℕ) → 3 ≤ length text → length text ≤ 9 → all alphanumeric text ≡ true → recognized Logon (ESC ∷ text ++ CR ∷ []) ≡ logon text
 unfolding recognized same
 text-heard text s l h =
     let t : List ℕ = ESC ∷ text ++ CR ∷ [] in
@@ -61,6 +52,31 @@ text-heard text s l h =
     let inner : between t ≡ text = take-at text (CR ∷ []) (length t - 2) (omega arith) in
     let last : drop (length t - 1) t ≡ CR ∷ [] = drop-at (ESC ∷ text) (CR ∷ []) (length t - 1) (omega arith) in
     rw (le-leb 5 (length t) (omega arith), le-leb (length t) 11 (omega arith), inner, h, last)
+
+-- and nothing else is
+pub heard-text : (t text : List ℕ) → recognized Logon t ≡ logon text → (t ≡ ESC ∷ text ++ CR ∷ []) × (3 ≤ length text) × (length text ≤ 9) × (all alphanumeric text ≡ true)
+unfolding recognized
+heard-text t text h = go (same t (CR ∷ [])) (logsOn t) refl h
+  where
+    go : (b d : Bool) → logsOn t ≡ d → (if b then hello else if d then logon (between t) else noise) ≡ logon text →
+        (t ≡ ESC ∷ text ++ CR ∷ []) × (3 ≤ length text) × (length text ≤ 9) × (all alphanumeric text ≡ true)
+    go true d e h = absurd (false≢true cc)
+    go false false e h = absurd (false≢true cc)
+    go false true e h =
+        let n = length t in
+        let (four, end) = and-eq-true-iff (leb 5 n && leb n 11 && same (take 1 t) (ESC ∷ []) && all alphanumeric (between t)) (same (drop (n - 1) t) (CR ∷ [])) .0 e in
+        let (three, letters) = and-eq-true-iff (leb 5 n && leb n 11 && same (take 1 t) (ESC ∷ [])) (all alphanumeric (between t)) .0 four in
+        let (two, first) = and-eq-true-iff (leb 5 n && leb n 11) (same (take 1 t) (ESC ∷ [])) .0 three in
+        let (least, most) = and-eq-true-iff (leb 5 n) (leb n 11) .0 two in
+        let short = leb-true 5 n least in
+        let long = leb-true n 11 most in
+        let from : 1 + (n - 2) ≡ n - 1 = omega arith in
+        let rest : drop 1 t ≡ between t ++ drop (n - 1) t = sym (take-append-drop (n - 2) (drop 1 t)) ∙ ap (λ l. between t ++ l) (drop-drop (n - 2) 1 t ∙ rw from) in
+        let whole : t ≡ ESC ∷ between t ++ CR ∷ [] =
+        sym (take-append-drop 1 t) ∙ ap (λ l. l ++ drop 1 t) (same-equal (take 1 t) (ESC ∷ []) first) ∙ ap (λ l. ESC ∷ l) (rest ∙ ap (λ l. between t ++ l) (same-equal (drop (n - 1) t) (CR ∷ []) end)) in
+        let same-text : between t ≡ text = cc in
+        let count : length t ≡ length text + 2 = ap length whole ∙ rw (length-append, same-text) (omega arith) in
+        (rw same-text at whole, omega arith, omega arith, rw same-text at letters)
 
 -- a logon is heard as its name and password
 pub logon-heard : (password : List ℕ) → length password ≤ 6 → all alphanumeric password ≡ true → recognized Logon (ESC ∷ bytesOf "PG1" ++ password ++ CR ∷ []) ≡ logon (bytesOf "PG1" ++ password)

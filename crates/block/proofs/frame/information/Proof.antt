@@ -1,13 +1,14 @@
 -- `information` meets its contract: where the reader finds a block, its information stands between STX and the last five; else there is none.
 use mathlib.Core.List.{List, []}
-use mathlib.Core.Path.{_≡_, refl, _∙_}
+use mathlib.Core.Path.{_≡_, refl, ap, _∙_}
 use Prim.Native.Nat.{ℕ, _≤_}
 use lib.ListN.{length}
 use Rattle.line.specs.Answer.{Outcome, done, refused, mapDone, output}
-use Rattle.block.specs.Block.{Segment, inside, readBlock}
+use Rattle.block.specs.Block.{Segment, Handed, inside, readBlock}
 use Rattle.block.specs.declared.frame.Ending.{Ending}
 use Rattle.block.proofs.FrameLaws.{inside-part, read-done}
 use borrow.Author.Needs.{needs}
+use native.Mathlib.Nat.{add-comm}
 use native.Mathlib.Omega.{arith}
 use Rattle.block.proofs.frame.information.Statement.{statement}
 use Rattle.block.proofs.frame.information.Tie as tie
@@ -20,10 +21,10 @@ found s e h = go (readBlock s) refl h
     go (done g) r h = let d = read-done s g r in (d .tests .long, d .information)
     go (refused n) r h = let z : _≡_ {A = ℕ} 0 1 = cc in absurd (omega arith)
 
--- where none is found, the contract asks for nothing
-none : (n : ℕ) (o : Outcome Segment) → refused n ≡ mapDone (λ g. g .ending) o → [] ≡ output (mapDone (λ g. g .info) o)
-none n (done g) h = cc
-none n (refused m) h = refl
+-- where none is found, nothing is handed back, whatever its place
+none : (n : ℕ) (o : Outcome Segment) (string part : ℕ × ℕ) → refused n ≡ mapDone (λ g. g .ending) o → Handed o string [] part
+none n (done g) string part h = let z : _≡_ {A = ℕ} 0 1 = cc in absurd (omega arith)
+none n (refused m) string part h = record { holds = refl; follows = λ g e. let z : _≡_ {A = ℕ} 0 1 = cc in absurd (omega arith) }
 
 -- what is found where the reader answers with a block
 found-at : (c : tie.After-enum-told) →
@@ -44,7 +45,7 @@ slice-aggregate-result : tie.Need-slice-aggregate-result
 slice-aggregate-result c = search needs
 
 returns : tie.Need-returns
-returns c = none _ (readBlock (c .before .before .before .before .before .args .s .now)) (rw (c .before .enum-told2 .given .1) at (c .before .before .before .read .ensures))
+returns c = none _ (readBlock (c .before .before .before .before .before .args .s .now)) _ _ (rw (c .before .enum-told2 .given .1) at (c .before .before .before .read .ensures))
 
 sub-result : tie.Need-sub-result
 sub-result c = omega (arith, found-at c .0)
@@ -59,7 +60,9 @@ part-result-end : tie.Need-part-result-end
 part-result-end c = search needs
 
 returns-2 : tie.Need-returns-2
-returns-2 c = inside-part (c .before .before .before .before .before .args .s .now) ∙ found-at (c .before) .1
+returns-2 c =
+    let s = c .before .before .before .before .before .args .s in
+    record { holds = inside-part (s .now) ∙ found-at (c .before) .1; follows = λ g e. ap (λ n. (s .ptr .0, n)) (add-comm 1 (s .ptr .1)) }
 
 pub information-spec : {M : Type 1} → statement M
 information-spec =

@@ -143,7 +143,7 @@ returns-6 c =
     let n = a .state .length in
     let info = i .information .result .now in
     let m = a .buffer .now in
-    let (short, joins) = found d info (i .information .ensures) in
+    let (short, joins) = found d info (i .information .ensures .holds) in
     let roomy : n + length info ≤ length m = omega arith in
     let laid = copied-part (held (a .state) m) info m m _ n (overlay-own n m (omega arith)) (length-take-le n m (omega arith)) roomy (c .before .before .before .copy .ensures) in
     let next : Progress = record { state = record { length = n + length info; complete = c .is-last .result }; joined = held (a .state) m ++ info } in

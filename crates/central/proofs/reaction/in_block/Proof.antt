@@ -69,7 +69,7 @@ take-block-requires : tie.Need-take-block-requires
 take-block-requires c κs =
     let d = c .before .before in
     let p = d .before .before .before .before .before .before .before .before .before .before .pre in
-    (p .0, p .1, rw (c .information .ensures) (found d .0))
+    (p .0, p .1, rw (c .information .ensures .holds) (found d .0))
 
 enum-known-reading-2 : tie.Need-enum-known-reading-2
 enum-known-reading-2 c = search needs
@@ -100,7 +100,7 @@ returns-3 : tie.Need-returns-3
 unfolding reacts recognized
 returns-3 c =
     let d = c .before .before .before .before .before in
-    rw (other (d .before .before .before .before), found d .1, ← c .before .before .before .information .ensures) (c .before .before .take-block .ensures)
+    rw (other (d .before .before .before .before), found d .1, ← c .before .before .before .information .ensures .holds) (c .before .before .take-block .ensures)
 
 returns-4 : tie.Need-returns-4
 unfolding reacts recognized
