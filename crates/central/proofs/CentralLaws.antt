@@ -1,21 +1,21 @@
 -- Laws of a step: one that is not refused leaves a state in range and a well-formed journal.
-use mathlib.Core.Bool.{Bool, true, not, _&&_, and-eq-true-iff}
+use mathlib.Core.Bool.{true, not, _&&_, and-eq-true-iff}
 use mathlib.Core.List.{List}
 use mathlib.Core.Path.{_≡_, refl, subst}
 use Prim.Native.Nat.{ℕ, _≤_}
 use native.Mathlib.Omega.{arith}
 use borrow.Author.Tests.{leb-true, le-leb, eqb-true, eq-eqb, not-false}
-use lib.Dec.{leb, ltb}
+use lib.Dec.{ltb}
 use lib.ListN.{length, length-take}
 use Rattle.line.proofs.OutcomeLaws.{map-done, passed}
 use Rattle.line.proofs.OverlayLaws.{overlay-start}
 use Rattle.line.specs.Answer.{done, overlay}
 use Rattle.line.specs.Character.{byte, textual}
-use Rattle.line.specs.Password.{passwordInRange}
 use Rattle.line.specs.Test.{all}
 use Rattle.journal.proofs.AppendLaws.{decode-in-parts, journal-decodes}
 use Rattle.journal.specs.Append.{decodeIn}
 use Rattle.journal.specs.Encoding.{encode, Journal}
+use Rattle.central.proofs.RangeLaws.{settings-longest}
 use Rattle.central.proofs.HearingLaws.{heard-right}
 use Rattle.central.proofs.KeepLaws.{Within, Keeps, reacts-keeps}
 use Rattle.central.specs.Hearing.{heard}
@@ -44,13 +44,6 @@ state-within s settings pagers ts h =
 within-state : (c : Central) (settings : Settings) (pagers array : List ℕ) → Within (rulesOf settings pagers) c → stateInRange settings (saved c array) ≡ true
 within-state c settings pagers array w = rw (w .row, w .short, overlay-start (c .pending) array (length (c .pending)) refl, w .text)
 
--- settings in range have a longest transaction that is legal
-longest-legal : (settings : Settings) → settingsInRange settings ≡ true → settings .longest ≤ 2000
-longest-legal settings h =
-    let lower : Bool = passwordInRange (settings .password) && leb 3 (settings .longest) in
-    let (r, _) = and-eq-true-iff (lower && leb (settings .longest) 2000) (leb (settings .retries) 9) .0 h in
-    leb-true (settings .longest) 2000 (and-eq-true-iff lower (leb (settings .longest) 2000) .0 r .1)
-
 -- a step that is not refused
 module _ (s : State) (settings : Settings) (pagers buffer string : List ℕ) (room : ℕ) (x : Reaction) (step : stepped s settings pagers buffer string room ≡ done x) where
   -- its settings and its state are in range, the journal is read, and the central within its rules reacted
@@ -61,7 +54,7 @@ module _ (s : State) (settings : Settings) (pagers buffer string : List ℕ) (ro
       let (_, q) = passed (ltb room 7) _ _ _ r in
       let (ts, read, e) = map-done _ (decodeIn buffer (s .journal)) x q in
       let (lists, state) = and-eq-true-iff (settingsInRange settings && pagersInRange pagers) (stateInRange settings s) .0 (not-false _ tests) in
-      let most = longest-legal settings (and-eq-true-iff (settingsInRange settings) (pagersInRange pagers) .0 lists .0) in
+      let most = settings-longest settings (and-eq-true-iff (settingsInRange settings) (pagersInRange pagers) .0 lists .0) in
       let rules : Rules = rulesOf settings pagers in
       let c : Central = centralOf s ts in
       let keeps = reacts-keeps rules c (state-within s settings pagers ts state) most (s .stage) refl (heard (s .stage) string) (heard-right (s .stage) string) in

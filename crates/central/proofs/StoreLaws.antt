@@ -4,22 +4,19 @@ use mathlib.Core.List.{List, [], _∷_, _++_}
 use mathlib.Core.Path.{_≡_, refl, ap, _∙_}
 use Prim.Native.Nat.{ℕ, _+_, _-_, _≤_}
 use native.Mathlib.Omega.{arith}
-use borrow.Author.Tests.{le-leb, le-ltb}
+use borrow.Author.Tests.{le-ltb}
 use lib.Dec.{ltb, eqb, leb}
 use lib.ListN.{length, take, drop, length-append}
 use lib.Seq.{length-take-le}
 use Rattle.line.specs.Answer.{done, copied, overlay, writtenAs, Wrote}
-use Rattle.line.specs.Character.{byte, textual}
+use Rattle.line.specs.Character.{byte}
 use Rattle.line.specs.Test.{all}
-use Rattle.line.specs.Transaction.{endsInCR, legal}
+use Rattle.line.specs.Transaction.{legal}
 use Rattle.line.specs.declared.answer.Written.{Written}
 use Rattle.line.specs.declared.answer.Written.the-variants.{Count}
-use Rattle.line.proofs.AllLaws.{all-append}
 use Rattle.line.proofs.CopyLaws.{copied-part}
 use Rattle.line.proofs.OutcomeLaws.{passed}
-use Rattle.line.proofs.TransactionLaws.{ends-append, ends-some, of-legal}
-use Rattle.block.specs.Block.{agrees, right}
-use Rattle.block.specs.declared.frame.Ending.the-variants.{Etx}
+use Rattle.line.proofs.TransactionLaws.{of-legal}
 use Rattle.journal.specs.Append.{appendTo, decodeIn}
 use Rattle.journal.specs.Encoding.{encode, hasRoom}
 use Rattle.journal.specs.Walk.{decode}
@@ -47,20 +44,6 @@ pending-laid s info after size e h w =
     let n = s .length in
     let m = s .pending in
     rw (← e) (copied-part (pendingText s) info m m after n (overlay-own n m (omega arith)) (length-take-le n m (omega arith)) (omega arith) (rw (← e) at w))
-
--- the end of two texts joined is the second's, where it ends in CR (general)
-ends-join : (p t : List ℕ) → endsInCR t ≡ true → endsInCR (p ++ t) ≡ true
-unfolding endsInCR
-ends-join p [] e = cc
-ends-join p (c ∷ t) e = ends-append p c t ∙ e
-
--- information before ETX makes the transaction so far a whole one
-pub whole-legal : (p info : List ℕ) → all textual p ≡ true → right info Etx ≡ true → length (p ++ info) ≤ 2000 → legal (p ++ info) ≡ true
-unfolding agrees
-whole-legal p info a r h =
-    let (text, end) = and-eq-true-iff (all textual info) (endsInCR info) .0 r in
-    let cr = ends-join p info end in
-    rw (le-leb 1 (length (p ++ info)) (ends-some (p ++ info) cr), le-leb (length (p ++ info)) 2000 h, all-append textual p info, a, text, cr)
 
 -- what a journal in a buffer is read as, alone
 read-alone : (buffer : List ℕ) (n : ℕ) (ts : List (List ℕ)) → decodeIn buffer n ≡ done ts → decode (take n buffer) ≡ done ts

@@ -8,6 +8,7 @@ use borrow.Author.Tests.{ltb-true, lt-ltb, leb-true, le-leb}
 use lib.Dec.{ltb, leb}
 use native.Mathlib.Omega.{arith}
 use Prim.Native.Nat.{ℕ, zero, suc, _≤_}
+use Rattle.line.proofs.OutcomeLaws.{choice}
 use Rattle.line.specs.Test.{if_then_else_}
 use Rattle.block.specs.Block.{Segment}
 use Rattle.central.specs.Reaction.{Answer, nothing, idRequest, acceptance, ack, nak, rs, hangUp}
@@ -16,7 +17,7 @@ use Rattle.device.specs.declared.state.Verdict.the-variants.{Accepted, Rejected
 use Rattle.demand.proofs.Messages.{Txn, Rules, Limits, Call, silence, noise, hello, login, bye, blk, _is_, Harm, whole, lost, garbled, Harms, harms, arrives, returns, next}
 use Rattle.demand.proofs.Model.{Step, idle, closed, logon, blocks, Reply, failure, hears, opening, loggingOn, closing, sending, stopped, Device, device, transmits, begin, acked, reads, World, world, answered, sent, exchange, run, start, played}
 use Rattle.demand.specs.Demand.{decided}
-use Rattle.demand.proofs.Tests.{deviceOf, branch, looser, branches, decided-append}
+use Rattle.demand.proofs.Tests.{deviceOf, looser, branches, decided-append}
 
 -- the decisions of a device
 unfoldable pub count : Device → ℕ
@@ -64,20 +65,20 @@ module _ (R : Rules) where
     unfolding count reads decided
     reads-grows x (device (opening a) left told) =
         let P = Grows (device (opening a) left told) in
-        branch P (x is idRequest) (λ e. omega arith) (λ e. branch P (ltb a 3) (λ e. omega arith) (λ e. omega arith))
+        choice P (x is idRequest) (λ e. omega arith) (λ e. choice P (ltb a 3) (λ e. omega arith) (λ e. omega arith))
     reads-grows x (device (loggingOn a) left told) =
         let P = Grows (device (loggingOn a) left told) in
-        branch P (x is acceptance) (λ e. omega (arith, begin-count left told))
-        (λ e. branch P ((x is nak || x is idRequest) && leb a (L .D)) (λ e. omega arith) (λ e. omega arith))
+        choice P (x is acceptance) (λ e. omega (arith, begin-count left told))
+        (λ e. choice P ((x is nak || x is idRequest) && leb a (L .D)) (λ e. omega arith) (λ e. omega arith))
     reads-grows x (device (sending b bs a) left told) =
         let P = Grows (device (sending b bs a) left told) in
-        branch P (x is ack) (λ e. acked-grows b bs a left told)
-        (λ e. branch P (x is rs)
+        choice P (x is ack) (λ e. acked-grows b bs a left told)
+        (λ e. choice P (x is rs)
         (λ e. omega (arith, begin-count (tail left) (told ++ Rejected ∷ []), decided-append told (Rejected ∷ [])))
-        (λ e. branch P (x is nak && leb a (L .D)) (λ e. omega arith)
+        (λ e. choice P (x is nak && leb a (L .D)) (λ e. omega arith)
         (λ e. omega (arith, stop-count (x is nak || x is hangUp) told))))
     reads-grows x (device (closing a) left told) =
-        branch (Grows (device (closing a) left told)) (x is nak && leb a (L .D)) (λ e. omega arith) (λ e. omega arith)
+        choice (Grows (device (closing a) left told)) (x is nak && leb a (L .D)) (λ e. omega arith) (λ e. omega arith)
     reads-grows x (device stopped left told) = omega arith
 
     -- no string does
@@ -112,18 +113,18 @@ module _ (R : Rules) where
     unfolding count reads
     reads-still x e₁ e₂ (device (opening a) left told) =
         let P = Still (device (opening a) left told) in
-        branch P (x is idRequest) (λ e. refl) (λ e. branch P (ltb a 3) (λ e. refl) (λ e. refl))
+        choice P (x is idRequest) (λ e. refl) (λ e. choice P (ltb a 3) (λ e. refl) (λ e. refl))
     reads-still x e₁ e₂ (device (loggingOn a) left told) =
         let P = Still (device (loggingOn a) left told) in
-        branch P (x is acceptance) (λ e. begin-count left told)
-        (λ e. branch P ((x is nak || x is idRequest) && leb a (L .D)) (λ e. refl) (λ e. refl))
+        choice P (x is acceptance) (λ e. begin-count left told)
+        (λ e. choice P ((x is nak || x is idRequest) && leb a (L .D)) (λ e. refl) (λ e. refl))
     reads-still x e₁ e₂ (device (sending b bs a) left told) =
         let P = Still (device (sending b bs a) left told) in
-        branch P (x is ack) (λ e. absurd (false≢true (sym e₁ ∙ e)))
-        (λ e. branch P (x is rs) (λ e. absurd (false≢true (sym e₂ ∙ e)))
-        (λ e. branch P (x is nak && leb a (L .D)) (λ e. refl) (λ e. stop-count (x is nak || x is hangUp) told)))
+        choice P (x is ack) (λ e. absurd (false≢true (sym e₁ ∙ e)))
+        (λ e. choice P (x is rs) (λ e. absurd (false≢true (sym e₂ ∙ e)))
+        (λ e. choice P (x is nak && leb a (L .D)) (λ e. refl) (λ e. stop-count (x is nak || x is hangUp) told)))
     reads-still x e₁ e₂ (device (closing a) left told) =
-        branch (Still (device (closing a) left told)) (x is nak && leb a (L .D)) (λ e. refl) (λ e. refl)
+        choice (Still (device (closing a) left told)) (x is nak && leb a (L .D)) (λ e. refl) (λ e. refl)
     reads-still x e₁ e₂ (device stopped left told) = refl
 
     -- to hang up decides nothing

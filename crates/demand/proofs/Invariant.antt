@@ -7,6 +7,7 @@ use mathlib.Core.Path.{_≡_, refl, sym, _∙_, ap}
 use lib.Dec.{ltb, leb}
 use lib.Seq.{append-snoc}
 use Prim.Native.Nat.{ℕ, zero, suc}
+use Rattle.line.proofs.OutcomeLaws.{choice}
 use Rattle.line.specs.Test.{if_then_else_}
 use Rattle.block.specs.Block.{Segment}
 use Rattle.central.specs.Reaction.{Answer, nothing, idRequest, acceptance, ack, nak, rs, hangUp}
@@ -17,7 +18,7 @@ use Rattle.demand.proofs.Messages.{last, Txn, Rules, Limits, hello, log
 use Rattle.demand.proofs.Model.{Step, idle, closed, logon, blocks, Reply, takes, failure, hears, opening, loggingOn, closing, sending, stopped, Device, device, begin, acked, reads, World, world, answered, sent, exchange, run, start, played, haltsAt}
 use Rattle.demand.proofs.CleanModel.{verdict, after, verdicts}
 use Rattle.demand.proofs.Claim.{Laws, Pieces, final, piece, WellCut, cut-next}
-use Rattle.demand.proofs.Tests.{deviceOf, branch}
+use Rattle.demand.proofs.Tests.{deviceOf}
 
 -- why a block is refused: f it fits, l it is the last, a the whole is admitted
 why-refused : (f l a : Bool) → not f || (l && not a) ≡ true → (f ≡ false) ⊎ ((l ≡ true) × (a ≡ false))
@@ -67,7 +68,7 @@ module _ (R : Rules) where
   -- a failure leaves the journal as it is
   failure-keeps : (L : Limits) (at : ℕ → Step) (f : ℕ) (j : J) → failure R L at f j .journal ≡ j
   unfolding failure
-  failure-keeps L at f j = branch (λ (r : Reply J). r .journal ≡ j) (ltb f (L .C)) (λ e. refl) (λ e. refl)
+  failure-keeps L at f j = choice (λ (r : Reply J). r .journal ≡ j) (ltb f (L .C)) (λ e. refl) (λ e. refl)
 
   -- so does the close
   bye-keeps : (L : Limits) (h : Harm) (s : Step) (j : J) → hears R L s j (arrives h bye) .journal ≡ j
@@ -203,8 +204,8 @@ module _ (R : Rules) where
         unfolding answered reads
         reopens k a s x e n w =
             let P : Device → Type 0 = λ d. Good (world d s j₀) in
-            branch P (returns k x is idRequest) (λ e′. absurd (false≢true (sym (not-read k x idRequest e refl) ∙ e′)))
-            (λ e′. branch P (ltb a 3) (λ e′. is-opening w) (λ e′. is-stopped (quit start (λ c. absurd (n c)))))
+            choice P (returns k x is idRequest) (λ e′. absurd (false≢true (sym (not-read k x idRequest e refl) ∙ e′)))
+            (λ e′. choice P (ltb a 3) (λ e′. is-opening w) (λ e′. is-stopped (quit start (λ c. absurd (n c)))))
 
         -- an ID request
         opened : (k : Harm) → Allowed k → (a f : ℕ) → Then k (device (opening a) job []) (record { step = logon f; journal = j₀; answer = idRequest })
@@ -223,7 +224,7 @@ module _ (R : Rules) where
         good-opening lost k n m a s w = reopens k a s nothing refl n w
         good-opening garbled k n m a s at-idle = reopens k a idle nothing refl n at-idle
         good-opening garbled k n m a s (at-logon {f = f}) =
-            branch (Then k (device (opening a) job [])) (ltb f (L .C))
+            choice (Then k (device (opening a) job [])) (ltb f (L .C))
             (λ e. reopens k a (logon (suc f)) nak refl n at-logon) (λ e. reopens k a closed hangUp refl n (at-closed n))
         good-opening garbled k n m a s (at-closed c) = reopens k a closed nothing refl c (at-closed c)
 
@@ -243,7 +244,7 @@ module _ (R : Rules) where
             Then k (device (loggingOn a) job []) (record { step = logon f; journal = j₀; answer = nak })
         unfolding answered reads
         tries-again whole a f q =
-            branch (λ d. Good (world d (logon f) j₀)) (leb a (L .D)) (λ e. is-logging-on) (λ e. is-stopped (quit start q))
+            choice (λ d. Good (world d (logon f) j₀)) (leb a (L .D)) (λ e. is-logging-on) (λ e. is-stopped (quit start q))
         tries-again lost a f q = is-stopped (quit start q)
         tries-again garbled a f q = is-stopped (quit start q)
 
@@ -251,7 +252,7 @@ module _ (R : Rules) where
         logon-fails : (k : Harm) (a f : ℕ) → (Calm → match ≡ true → job ≡ []) → Then k (device (loggingOn a) job []) (failure R L logon f j₀)
         unfolding failure
         logon-fails k a f q =
-            branch (Then k (device (loggingOn a) job [])) (ltb f (L .C)) (λ e. tries-again k a (suc f) q) (λ e. gives-up k a closed true q)
+            choice (Then k (device (loggingOn a) job [])) (ltb f (L .C)) (λ e. tries-again k a (suc f) q) (λ e. gives-up k a closed true q)
 
         -- an acceptance
         logged-on : (k : Harm) → Allowed k → (a : ℕ) → match ≡ true →
@@ -266,7 +267,7 @@ module _ (R : Rules) where
             Then k (device (loggingOn a) job []) (hears R L (logon f) j₀ (arrives h login))
         unfolding hears
         good-logging-on whole k n m a f =
-            branch (Then k (device (loggingOn a) job [])) match (logged-on k m a) (λ e. logon-fails k a f (λ c e′. absurd (false≢true (sym e ∙ e′))))
+            choice (Then k (device (loggingOn a) job [])) match (logged-on k m a) (λ e. logon-fails k a f (λ c e′. absurd (false≢true (sym e ∙ e′))))
         good-logging-on lost k n m a f = gives-up k a (logon f) false (λ c. absurd (n c))
         good-logging-on garbled k n m a f = logon-fails k a f (λ c. absurd (n c))
 
@@ -331,7 +332,7 @@ module _ (R : Rules) where
           unfolding answered reads
           hears-nak k n b bs a f p x e =
               unless-lost k b bs a _ (allowed k n) (breaks Unconfirmed refl)
-              (branch (λ d. Good (world d (blocks f p) j)) (leb a (L .D)) (λ e′. is-sending match-is r x e) (λ e′. breaks Deferred refl n))
+              (choice (λ d. Good (world d (blocks f p) j)) (leb a (L .D)) (λ e′. is-sending match-is r x e) (λ e′. breaks Deferred refl n))
 
           -- a block that arrives whole
           block-taken : (k : Harm) → Allowed k → {u : Txn} (b : Segment) (bs : List Segment) (a : ℕ) (p : List ℕ) → Pieces u b bs → p ++ u ≡ t →
@@ -340,14 +341,14 @@ module _ (R : Rules) where
           block-taken k n b bs a p (final l) e =
               let P = Then k (device (sending b [] a) (t ∷ ts) told) in
               rw e
-              (branch P (refused R j t b) (λ x. rejects k n b [] a (refused-not j t t b (λ y. refl) (laws .admits-fits j t) x))
-              (λ x. branch P (last b) (λ y. accepts k n b a (why-passed (fits t) (last b) (admits j t) l x)) (λ y. absurd (false≢true (sym y ∙ l)))))
+              (choice P (refused R j t b) (λ x. rejects k n b [] a (refused-not j t t b (λ y. refl) (laws .admits-fits j t) x))
+              (λ x. choice P (last b) (λ y. accepts k n b a (why-passed (fits t) (last b) (admits j t) l x)) (λ y. absurd (false≢true (sym y ∙ l)))))
           block-taken k n b bs a p (piece {t = u} {c = c} {bs = bs′} l x) e =
               let P = Then k (device (sending b (c ∷ bs′) a) (t ∷ ts) told) in
-              branch P (refused R j (p ++ b .info) b)
+              choice P (refused R j (p ++ b .info) b)
               (λ y. rejects k n b (c ∷ bs′) a (refused-not j t (p ++ b .info) b (λ z. absurd (false≢true (sym l ∙ z)))
               (λ z. laws .fits-prefix (p ++ b .info) u (rw (append-assoc, e) (laws .admits-fits j t z))) y))
-              (λ y. branch P (last b) (λ z. absurd (false≢true (sym l ∙ z))) (λ z. goes-on k n b c bs′ a (p ++ b .info) x (append-assoc p (b .info) u ∙ e)))
+              (λ y. choice P (last b) (λ z. absurd (false≢true (sym l ∙ z))) (λ z. goes-on k n b c bs′ a (p ++ b .info) x (append-assoc p (b .info) u ∙ e)))
 
           -- the invariant is kept while the device sends
           good-sending : (h k : Harm) → Allowed h → Allowed k → {u : Txn} (b : Segment) (bs : List Segment) (a f : ℕ) (p : List ℕ) → Pieces u b bs → p ++ u ≡ t →
@@ -356,7 +357,7 @@ module _ (R : Rules) where
           good-sending whole k n m b bs a f p x e = block-taken k m b bs a p x e
           good-sending lost k n m b bs a f p x e = hears-nothing k n b bs a (blocks f p)
           good-sending garbled k n m b bs a f p x e =
-              branch (Then k (device (sending b bs a) (t ∷ ts) told)) (ltb f (L .C))
+              choice (Then k (device (sending b bs a) (t ∷ ts) told)) (ltb f (L .C))
               (λ e′. hears-nak k n b bs a (suc f) p x e) (λ e′. hears-hangup k n b bs a closed)
 
         -- ── Closing ──
@@ -368,7 +369,7 @@ module _ (R : Rules) where
         good-closing h k a told s j r =
             let x = hears R L s j (arrives h bye) in
             rw (bye-keeps L h s j)
-            (branch (λ (d : Device). Good (world d (x .step) j)) (returns k (x .answer) is nak && leb a (L .D))
+            (choice (λ (d : Device). Good (world d (x .step) j)) (returns k (x .answer) is nak && leb a (L .D))
             (λ e. is-closing r) (λ e. is-stopped (quit r (λ c e. refl))))
 
         -- ── Every place ──

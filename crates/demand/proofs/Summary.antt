@@ -9,6 +9,7 @@ use native.Mathlib.Nat.{add-zero}
 use native.Mathlib.Numerals.{add-one}
 use native.Mathlib.Omega.{arith}
 use Prim.Native.Nat.{ℕ, zero, suc, _+_, _-_, _<_}
+use Rattle.line.proofs.OutcomeLaws.{choice}
 use Rattle.line.specs.Test.{if_then_else_}
 use Rattle.device.specs.declared.state.Verdict.{Verdict}
 use Rattle.device.specs.declared.state.Verdict.the-variants.{Unconfirmed, Unsent}
@@ -16,7 +17,7 @@ use Rattle.demand.proofs.Messages.{Txn, Rules}
 use Rattle.demand.proofs.CleanModel.{verdict, after, verdicts, cleanVerdicts, cleanJournal}
 use Rattle.demand.proofs.Claim.{Agrees}
 use Rattle.demand.specs.Demand.{decides, decided}
-use Rattle.demand.proofs.Tests.{branch, decided-append, decided-unsent}
+use Rattle.demand.proofs.Tests.{decided-append, decided-unsent}
 use Rattle.demand.proofs.Invariant.{verdicts-append, Ended, quit, broke}
 
 module _ (R : Rules) where
@@ -31,7 +32,7 @@ module _ (R : Rules) where
   -- a clean verdict is a decision
   decides-verdict : (j : J) (t : Txn) → decides (verdict R j t) ≡ true
   unfolding verdict
-  decides-verdict j t = branch (λ (v : Verdict). decides v ≡ true) (admits j t) (λ e. refl) (λ e. refl)
+  decides-verdict j t = choice (λ (v : Verdict). decides v ≡ true) (admits j t) (λ e. refl) (λ e. refl)
 
   -- clean verdicts are all decisions
   decided-verdicts : (j : J) (ts : List Txn) → decided (verdicts R j ts) ≡ length ts
@@ -178,7 +179,7 @@ module _ (R : Rules) where
       journal-kept = go (s .known)
         where
           go : (done ≡ []) ⊎ (match ≡ true) → after-all done ≡ cleanJournal R j₀ job (decided vs)
-          go (inl e) = rw (k-is, e) (branch (λ (j : J). j₀ ≡ j) match (λ e. refl) (λ e. refl))
+          go (inl e) = rw (k-is, e) (choice (λ (j : J). j₀ ≡ j) match (λ e. refl) (λ e. refl))
           go (inr m) = sym (simp add-zero at (journal-at 0 m))
 
       -- what is claimed

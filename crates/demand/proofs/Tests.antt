@@ -15,20 +15,14 @@ use Rattle.demand.specs.Demand.{decides, decided}
 abbrev pub deviceOf : {J : Type 0} → World J → Device
 deviceOf (world d s j) = d
 
-module _ {A : Type 0} where
-  -- to show P of an `if`, show it of both branches, each from what its test says
-  pub branch : (P : A → Type 0) (c : Bool) {u v : A} → (c ≡ true → P u) → (c ≡ false → P v) → P (if c then u else v)
-  branch P true h k = h refl
-  branch P false h k = k refl
-
-  -- two `if`s, whose second test holds wherever the first does
-  pub looser : (P : A → A → Type 0) (p q q′ : Bool) {u v : A} → (q ≡ true → q′ ≡ true) → ((z : A) → P z z) → P v u →
-      P (if p && q then u else v) (if p && q′ then u else v)
-  looser P false q q′ {v = v} h r k = r v
-  looser P true true true {u = u} h r k = r u
-  looser P true true false h r k = absurd (false≢true (h refl))
-  looser P true false true h r k = k
-  looser P true false false {v = v} h r k = r v
+-- two `if`s, whose second test holds wherever the first does
+pub looser : {A : Type 0} (P : A → A → Type 0) (p q q′ : Bool) {u v : A} → (q ≡ true → q′ ≡ true) → ((z : A) → P z z) → P v u →
+    P (if p && q then u else v) (if p && q′ then u else v)
+looser P false q q′ {v = v} h r k = r v
+looser P true true true {u = u} h r k = r u
+looser P true true false h r k = absurd (false≢true (h refl))
+looser P true false true h r k = k
+looser P true false false {v = v} h r k = r v
 
 -- two `if`s on one test
 pub branches : {A B : Type 0} (P : A → B → Type 0) (c : Bool) {u v : A} {u′ v′ : B} → P u u′ → P v v′ → P (if c then u else v) (if c then u′ else v′)

@@ -1,7 +1,7 @@
 -- `take_block` meets its contract: a transaction over L is refused; else the block's information lies behind the pending information, and the ending decides.
 use mathlib.Core.Bool.{true}
 use mathlib.Core.List.{[], _++_}
-use mathlib.Core.Path.{_≡_, sym, ap, _∙_}
+use mathlib.Core.Path.{_≡_, refl, sym, ap, _∙_}
 use Prim.Native.Nat.{_+_, _-_, _≤_}
 use borrow.Author.Tests.{lt-ltb}
 use borrow.Rule.Slice.PartMut.{putMid}
@@ -17,7 +17,9 @@ use Rattle.central.specs.declared.answer.Answer.the-variants.{Ack}
 use Rattle.central.specs.declared.state.Stage.the-variants.{Block}
 use Rattle.line.proofs.AllLaws.{all-bytes}
 use Rattle.central.proofs.ReactedLaws.{does-stores}
-use Rattle.central.proofs.StoreLaws.{pending-length, pending-laid, whole-legal, takes-on}
+use Rattle.block.specs.declared.frame.Ending.the-variants.{Etx}
+use Rattle.block.proofs.SegmentLaws.{joined-legal}
+use Rattle.central.proofs.StoreLaws.{pending-length, pending-laid, takes-on}
 use borrow.Author.Needs.{needs}
 use native.Mathlib.Omega.{arith}
 use Rattle.central.proofs.reaction.take_block.Statement.{statement}
@@ -138,7 +140,7 @@ store-requires c κs =
     let p = k .pre in
     let fits = short d in
     let right = rw (c .before .before .enum-told .given .1) at (p .2) in
-    let good = whole-legal (pendingText (k .args .state)) (k .args .info .now) (p .0 .characters) right (omega (arith, p .0)) in
+    let good = joined-legal (pendingText (k .args .state)) (k .args .info .now) Etx (p .0 .characters) right refl (omega (arith, p .0)) in
     (p .0, p .1, rw (taken d) good, rw (taken d) fits)
 
 enum-told-2 : tie.Need-enum-told-2
