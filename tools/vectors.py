@@ -399,7 +399,11 @@ def digest(b):
     return "%d %d" % (len(b), sum((i + 1) * x for i, x in enumerate(b.rstrip(b"\0"))) % 1000003)
 
 
+books = []  # every journal that is checked, to be walked too
+
+
 def k(b):
+    books.append(b)
     call("k", hexed(b), answer=lambda: "%d" % len(decode(b)))
     for i in (0, 1, 63):
         def pick(ts, i):
@@ -411,6 +415,28 @@ def k(b):
                 return []
         call("n", number(i), hexed(b), answer=lambda: pick(listed(b)[::-1], i))
         call("o", number(i), hexed(b), answer=lambda: pick(listed(b), i))
+
+
+def walk(b):
+    """The records from the newest back, as far as the walk comes, and how it ends."""
+    if len(b) < 4:
+        return "refused 7"
+    left, end, out = b[-4] << 8 | b[-3], b[-2] << 8 | b[-1], []
+    if left > 64 or end > 32000 or end + 4 != len(b):
+        return "refused 7"
+    while left:
+        n = b[end - 2] << 8 | b[end - 1] if end >= 2 else end
+        if end < n + 2 or not legal(b[end - 2 - n:end - 2]):
+            return " ".join(out + ["refused 7"])
+        out.append(plain(b[end - 2 - n:end - 2]))
+        end, left = end - n - 2, left - 1
+    return " ".join(out + ["refused 7" if end else "end"])
+
+
+def walks():
+    assert walk(encode([b"7\r\r", b"123\rABC\r"])) == "3132330d4142430d 370d0d end"
+    for b in books:
+        call("v", hexed(b), answer=lambda: walk(b))
 
 
 def a(b, t, size=32004):
@@ -467,11 +493,16 @@ class Central:
 
     def settings(self):
         settings(self.password, self.retries)
-        if not 3 <= self.longest <= 2000 or len(self.pagers) > 1000 or any(x >= 10 ** 8 for x in self.pagers):
+        if not 3 <= self.longest <= 2000:
+            raise Refused(9)
+
+    def list(self):
+        if len(self.pagers) > 1000 or any(x >= 10 ** 8 for x in self.pagers):
             raise Refused(9)
 
     def step(self, line):
         self.settings()
+        self.list()
         stored = decode(self.journal)
         return bytes(map(with_parity, self.answer(line, stored)))
 
@@ -676,6 +707,196 @@ def device(rng):
         e(b"", rng.randint(0, 3), job, *(list(up) + [rng.choice(says[:6] + says[2:4] * 3) for _ in range(rng.randint(1, 9))]))
 
 
+# ── single steps from saved states ──
+FILLER = b"\xa5"  # what an output holds before a step
+
+
+def laid(answer, memory):
+    """A memory with an answer at its start."""
+    return answer + memory[len(answer):]
+
+
+def central_in_range(c, n):
+    """The central's saved state, with an unfinished information of so many characters."""
+    idle, held = c.stage in ("idle", "closed"), c.pending[:n]
+    return c.failures <= (0 if idle else c.retries) and n <= (c.longest if c.stage == "block" else 0) and text_ok(held)
+
+
+def resumed(settings, begin, stage, failures, pending, n, length, size, room, lines):
+    """What the central answers from a saved state on, and how state and buffers stand at the end."""
+    c, buffer, memory, out, said = Central(*settings, b""), begin[:size].ljust(size, b"\0"), pending.ljust(2000, b"\0"), FILLER * room, []
+    c.stage, c.failures = stage, failures
+    for line in lines:
+        c.pending, c.journal = memory[:n], buffer[:length]
+        try:
+            c.settings()
+            if not central_in_range(c, n):
+                raise Refused(9)
+            if line == DROP:
+                c.stage, c.failures, n = "idle", 0, 0
+                said.append("-")
+                continue
+            c.list()
+            if room < 7 or size != 32004:
+                raise Refused(1)
+            if length > size:
+                raise Refused(7)
+            reply = c.step(line)
+        except Refused as r:
+            said.append("refused %s" % r)
+            continue
+        said.append(plain(reply))
+        memory, n, buffer, length, out = laid(c.pending, memory), len(c.pending), laid(c.journal, buffer), len(c.journal), laid(reply, out)
+    return "%s, %s %d %d %s %d %s %s %s" % (" ".join(said), c.stage, c.failures, n, digest(buffer[:length]), length, digest(memory[:n]), digest(buffer), digest(out))
+
+
+def f(*texts, password=b"", longest=2000, retries=2, pagers=(123, 7), begin=encode([]), stage="block", failures=0, pending=b"", n=None, length=None, size=32004, room=7):
+    """Steps of the central from a saved state; n is the length of what is unfinished, length the journal's, size its buffer's, room the output's."""
+    lines = [x[0] if isinstance(x, list) else bytes(map(with_parity, x)) for x in texts]
+    n, length = len(pending) if n is None else n, len(begin) if length is None else length
+    numbers = b"".join(x.to_bytes(4, "big") for x in pagers)
+    assert len(pagers) <= 1001 and len(pending) <= 2000 and room <= 256  # what the program has room for
+    call("f", hexed(password), number(longest), number(retries), hexed(numbers), hexed(begin), stage[0], number(failures), hexed(pending), number(n), number(length),
+         number(size), number(room), *[hexed(x) for x in lines],
+         answer=lambda: resumed((password, longest, retries, pagers), begin, stage, failures, pending, n, length, size, room, lines))
+
+
+def device_in_range(step, attempts, retries):
+    return step == "stopped" or 1 <= attempts <= (3 if step == "opening" else retries + 1)
+
+
+def exists(job, step, place):
+    t, b = place
+    return step == "stopped" or (t < len(job) and b < count_blocks(len(job[t])) if step == "sending" else place == (0, 0))
+
+
+def replayed(password, retries, job, step, place, attempts, room, lines):
+    """The start, what the device does with replies from a saved state on, and how state and output stand at the end."""
+    out, said = FILLER * room, []
+
+    def tested():
+        settings(password, retries)
+        if not device_in_range(step, attempts, retries):
+            raise Refused(9)
+        if room < 256:
+            raise Refused(1)
+        d = Device(password, retries, job)
+        if not exists(d.job, step, place):
+            raise Refused(9)
+        d.step, d.place, d.attempts = step, place, attempts
+        return d
+
+    try:
+        settings(password, retries)
+        if room < 256:
+            raise Refused(1)
+        string = Device(password, retries, job).string()
+        out = laid(string, out)
+        said.append(plain(string))
+    except Refused as r:
+        said.append("refused %s" % r)
+    for line in lines:
+        try:
+            d = tested()
+        except Refused as r:
+            said.append("- refused %s" % r)
+            continue
+        given = d.take(line)
+        out, step, place, attempts = laid(d.string(), out), d.step, d.place, d.attempts
+        said.append("%s %s" % (given, plain(d.string())))
+    return "%s, %s %s" % (", ".join(said), step if step == "stopped" else "%s %d %d %d" % (step, *place, attempts), digest(out))
+
+
+def g(*texts, password=b"", retries=1, job, step="sending", place=(0, 0), attempts=1, room=256):
+    """Steps of the entry device from a saved state; room is the output's size."""
+    lines = [x[0] if isinstance(x, list) else bytes(map(with_parity, x)) for x in texts]
+    assert room <= 512  # what the program has room for
+    call("g", hexed(password), number(retries), hexed(job), "x" if step == "stopped" else step[0], number(place[0]), number(place[1]), number(attempts), number(room),
+         *[hexed(x) for x in lines], answer=lambda: replayed(password, retries, job, step, place, attempts, room, lines))
+
+
+def central_steps(rng):
+    page, part, page_of = block(b"123\rABC\r", ETX), block(b"BC", US), encode([b"7\r\r"])
+    flip = bytearray(map(with_parity, page)); flip[0] ^= 0x80
+    lines = (b"", b"\r", b"\x1bPG1\r", b"\x1bPG2\r", page, part, block(b"C\r", ETX), block(b"\r", ETB), block(b"", ETX), b"\x04\r", b"?", [bytes(flip)], [DROP])
+    # every stage, failures up to its most and one more, each kind of string
+    for stage, failures, line in itertools.product(("idle", "logon", "block", "closed"), range(4), lines):
+        f(line, stage=stage, failures=failures, room=7 + failures % 2)
+    # what is unfinished: in range, with CR, up to L and over it; a wrong character; outside Block
+    for pending in (b"1", b"123\rA", b"123\r", b"7\r\r", b"\r", b"\r\r", b" ~", b"123\r" + b"A" * 244):
+        for line in (b"", part, block(b"C\r", ETX), block(b"\r", ETX), block(b"7\r", ETB), block(b"", US), b"?", b"\x04\r", [DROP]):
+            f(line, pending=pending, failures=1), f(line, pending=pending, longest=max(3, len(pending)), begin=page_of)
+        f(part, pending=pending, longest=max(3, len(pending) + 2)), f(part, pending=pending, longest=max(3, len(pending) + 1)), f(part, pending=pending, longest=max(3, len(pending) - 1))
+        for stage in ("idle", "logon", "closed"):
+            f(b"\r", stage=stage, pending=pending), f(b"\r", stage=stage, pending=pending, n=0)
+    for wrong in (b"\x1f", b"\x7f", b"\x80", b"\n", b"\0", b"\xff"):
+        for pending in (wrong, b"123\r" + wrong, wrong + b"A"):
+            f(block(b"C\r", ETX), pending=pending), f(block(b"C\r", ETX), pending=b"123\rA" + pending, n=5), f(b"", pending=pending), f([DROP], b"\r", pending=pending)
+    for n in (1999, 2000, 2001, 65535):
+        for longest in (3, 1999, 2000):
+            f(block(b"\r", ETX), pending=b"123\r" + b"A" * 1996, n=n, longest=longest), f(b"", pending=b"123\r" + b"A" * 1996, n=n, longest=longest)
+    # outputs, the journal's buffer and its length
+    for room in (0, 1, 6, 7, 8, 256):
+        for line in (b"", page, b"?", b"\x04\r"):
+            f(line, room=room)
+        f(b"\x1bPG1\r", stage="logon", room=room), f(b"\r", stage="idle", room=room), f(b"", stage="closed", room=room)
+    full, tight = encode([b"\r"] * 64), encode([b"A" * 1997 + b"\r"] * 15 + [b"A" * 1987 + b"\r"])
+    for begin in (encode([]), page_of, page_of[:-1], page_of + b"\0", page_of + b"\xff" * 9, b"", b"\xff" * 9):
+        for length in sorted({0, 3, 4, len(begin), len(begin) + 1, len(page_of), 32003, 32004, 32005, 65535}):
+            f(page, begin=begin, length=length)
+        for size in (0, 4, 32003, 32005, 65535):
+            f(page, begin=begin, size=size), f(b"", begin=begin, size=size, length=65535, stage="closed")
+    for begin in (full, tight, full[1:], tight[1:]):
+        f(page, begin=begin), f(block(b"7\r\r", ETX), begin=begin + b"\xff" * 9, length=len(begin)), f(b"", begin=begin, stage="closed"), f(b"\x04\r", begin=begin, failures=2)
+    # settings and pager lists
+    for wrong in ({"password": b"abcdefg"}, {"password": b"a b"}, {"longest": 2}, {"longest": 2001}, {"retries": 10}, {"pagers": (10 ** 8,)}, {"pagers": (0,) * 1000 + (123,)},
+                  {"pagers": (0,) * 999 + (123,)}, {"pagers": (99999999, 0)}, {"pagers": ()}, {"longest": 3}, {"retries": 9}, {"password": b"abc123"}):
+        f(page, **wrong), f(page, **wrong, room=6, begin=b""), f(b"", **wrong, stage="idle"), f([DROP], **wrong, room=0, size=0, begin=b"", failures=1)
+    # several wrongs at once
+    for retries, failures, room, size, begin in itertools.product((2, 10), (2, 3), (7, 6), (32004, 32003), (page_of, page_of[1:])):
+        f(page, retries=retries, failures=failures, room=room, size=size, begin=begin), f(b"", retries=retries, pending=b"1\x7f"[:failures - 1], room=room, size=size, begin=begin)
+    # all kinds
+    for _ in range(150):
+        stage = rng.choice(("block",) * 5 + ("idle", "logon", "closed"))
+        pending = rng.choice((b"",) + (b"123\r", b"7\rAB", b"123\rA\r", b"12", b"1\x7f") * (stage == "block"))
+        f(*rng.choices(lines[:-1], k=rng.randint(1, 3)), longest=rng.choice((3, 8, 2000)), retries=rng.randint(0, 3), failures=rng.choice((0, 0, 1, 2)) * (stage in ("block", "logon")),
+          begin=rng.choice((encode([]), page_of, full, tight)), stage=stage, pending=pending, room=rng.choice((7, 7, 7, 9, 6)))
+
+
+def device_steps(rng):
+    says = (b"ID=\r", b"\r\x06\r\x1b[p\r", b"\r\x06\r", b"\r\x15\r", b"\r\x1e\r", b"\r\x1b\x04\r", b"", b"?", [b"\x8d\x86\x8d"])
+    steps, job = ("opening", "logon", "sending", "closing", "stopped"), encode([b"123\rABC\r", b"9\rX\r", b"7\r" + b"A" * 600 + b"\r"])
+    # every step, attempts up to its most and one more, each kind of reply
+    for step, attempts, said in itertools.product(steps, range(5), says):
+        g(said, job=job, step=step, attempts=attempts)
+    for step, retries, said in itertools.product(steps, (0, 9), (b"\r\x15\r", b"ID=\r", b"")):
+        for attempts in (retries, retries + 1, retries + 2, 65535):
+            g(said, job=job, step=step, attempts=attempts, retries=retries, password=b"q7")
+    # every place, and places that do not exist
+    for place in itertools.product((0, 1, 2, 3, 65535), (0, 1, 2, 3, 65535)):
+        for said in (b"\r\x06\r", b"\r\x1e\r", b"\r\x15\r", b"") if place < (3, 0) and place[1] < 3 else (b"\r\x06\r",):
+            g(said, job=job, place=place)
+    for place, step in itertools.product(((0, 1), (1, 0), (2, 2), (65535, 65535)), ("opening", "logon", "closing", "stopped")):
+        g(b"\r\x15\r", job=job, step=step, place=place)
+    g(b"\r\x06\r", job=encode([])), g(b"\r\x06\r\x1b[p\r", job=encode([]), step="logon"), g(b"\r\x06\r", job=encode([b"\r"] * 64), place=(63, 0)), g(b"\r\x06\r", job=encode([b"\r"] * 64), place=(64, 0))
+    # outputs and jobs
+    for step, room in itertools.product(steps, (0, 1, 255, 256, 257, 512)):
+        g(b"\r\x06\r", job=job, step=step, room=room), g(b"\r\x15\r", job=job, step=step, place=(2, 1) if step == "sending" else (0, 0), room=room)
+    for wrong, step in itertools.product((b"", job[:-1], job[1:], job + b"\0", bytes(3), encode([b"\r"] * 65)), steps):
+        g(b"\r\x15\r", job=wrong, step=step), g(b"", job=wrong, step=step, place=(9, 9))
+    # several wrongs at once
+    for retries, attempts, room, bad, place in itertools.product((1, 10), (1, 0), (256, 255), (job, job[1:]), ((2, 2), (2, 3))):
+        for step in ("sending", "closing"):
+            g(b"\r\x06\r", job=bad, step=step, retries=retries, attempts=attempts, room=room, place=place)
+    for password in (b"abcdefg", b"a-b"):
+        g(b"\r\x06\r", job=job, password=password), g(b"\r\x06\r", job=job[1:], password=password, room=1)
+    # all kinds
+    for _ in range(150):
+        step = rng.choice(steps + ("sending",) * 4)
+        place = rng.choice(((0, 0), (1, 0), (2, 0), (2, 1), (2, 2), (2, 3), (3, 0))) if step == "sending" else (0, 0)
+        g(*rng.choices(says[:6], k=rng.randint(1, 4)), job=job, step=step, place=place, attempts=rng.choice((1, 1, 2, 3)), retries=rng.randint(0, 3), room=rng.choice((256, 256, 256, 300, 255)))
+
+
 # ── the run ──
 class Run(typing.NamedTuple):
     """What a run takes: the job, the faults, the device's settings, the central's, how the journal's buffer begins and its size, the journal's length in
@@ -707,6 +928,7 @@ def run(r):
     central = Central(*r.central, r.journal())
     settings(r.password, r.retries)
     central.settings()
+    central.list()
     if any(f > 8 for f in r.faults):
         raise Refused(9)
     if r.size != 32004:
@@ -851,7 +1073,7 @@ def lines(rng):
     rows += [bytes(rng.choice(b" 19Az~\x1f\x7f\x80") for _ in range(rng.randint(0, 12))) for _ in range(300)]
     rows += [b"%d " % rng.randrange(10 ** 8) + bytes(rng.choice(b" AZaz09,.") for _ in range(rng.randint(0, 900))) for _ in range(120)]
     assert b"".join(map(listing, rows[:3])) == b"<STX>123<CR>ABC<CR><ETX>17;<CR>\n<STX>7<CR><CR><ETX>056<CR>\nrefused 6\n"
-    rows += [b"12 last line without its end"]
+    rows += [b"12 last line without its end", b"8"]
     return b"\n".join(rows), b"".join(map(listing, rows))
 
 
@@ -864,6 +1086,9 @@ def main():
     device(rng)
     program = lines(rng)
     runs(rng)
+    central_steps(rng)
+    device_steps(rng)
+    walks()
     crates = os.path.join(os.path.dirname(os.path.abspath(__file__)), "..", "crates")
     vectors = ["\n".join(rows + [""]).encode() for rows in (calls, answers)]
     for crate, files in (("vectors", vectors), ("blocks", program)):

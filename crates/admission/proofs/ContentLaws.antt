@@ -1,6 +1,6 @@
 -- Laws of the content rules: counting fields, reading a number and searching the list as loops do them; the first field and its end;
 -- and what the rules say of a transaction by its fields.
-use mathlib.Core.Bool.{Bool, true, false, _&&_, and-false, and-eq-true-iff}
+use mathlib.Core.Bool.{Bool, true, false, and-eq-true-iff}
 use mathlib.Core.List.{List, [], _∷_, _++_}
 use mathlib.Core.Path.{_≡_, refl, sym, _∙_}
 use Prim.Native.Nat.{ℕ, suc, _+_, _-_, _*_, _^_, _≤_, _<_}
@@ -12,13 +12,11 @@ use lib.Dec.{eqb, leb}
 use lib.ListN.{length, getD, take, drop, drop-of-length-le}
 use lib.Seq.{drop-cons}
 use Rattle.line.proofs.TransactionLaws.{legal-transaction}
-use Rattle.line.specs.Answer.{Outcome, done, refused}
 use Rattle.line.specs.Character.{CR, printable, digit}
 use Rattle.line.specs.Test.{if_then_else_, all, before}
 use Rattle.line.specs.Transaction.{Fields, none, next, legal}
-use Rattle.journal.specs.Append.{roomFor}
-use Rattle.journal.specs.Encoding.{hasRoom}
-use Rattle.admission.specs.Content.{numberFrom, firstField, fieldCount, listed, pages, admits, admittedTo}
+use Rattle.journal.specs.Storage.{Storage}
+use Rattle.admission.specs.Content.{numberFrom, firstField, fieldCount, listed, pages, content, admits}
 
 -- a loop that has counted n CRs before the place i: the rest has the others
 module _ (t : List ℕ) (i n : ℕ) (rest : fieldCount t ≡ n + fieldCount (drop i t)) where
@@ -157,28 +155,27 @@ two-fields t h e =
         let first = field-first f (g ++ CR ∷ []) h in
         record { second = g; made = rw first (next h (next k none)); joined = rw first; first-printable = rw first h; second-printable = k }
 
--- what is admitted: at most L characters, two fields, the first a listed pager number, and room in the journal
-pub record Admitted (most : ℕ) (pagers : List ℕ) (journal : List (List ℕ)) (t : List ℕ) : Type 0 where
+-- right content: at most L characters, two fields, the first a listed pager number
+pub record Content (most : ℕ) (pagers t : List ℕ) : Type 0 where
   pub within : length t ≤ most
   pub two : fieldCount t ≡ 2
   pub pager : pages pagers (firstField t) ≡ true
-  pub room : hasRoom journal (length t) ≡ true
 
--- a transaction that is admitted meets each rule
-pub admits-parts : (most : ℕ) (pagers : List ℕ) (journal : List (List ℕ)) (t : List ℕ) → admits most pagers journal t ≡ true → Admitted most pagers journal t
-unfolding admits
-admits-parts most pagers journal t h =
-    let (rest, room) = and-eq-true-iff _ (hasRoom journal (length t)) .0 h in
-    let (few, pager) = and-eq-true-iff _ (pages pagers (firstField t)) .0 rest in
+-- what passes the content rules meets each of them
+pub content-parts : (most : ℕ) (pagers t : List ℕ) → content most pagers t ≡ true → Content most pagers t
+unfolding content
+content-parts most pagers t h =
+    let (few, pager) = and-eq-true-iff _ (pages pagers (firstField t)) .0 h in
     let (short, two) = and-eq-true-iff (leb (length t) most) (eqb (fieldCount t) 2) .0 few in
-    record { within = leb-true (length t) most short; two = eqb-true (fieldCount t) 2 two; pager = pager; room = room }
+    record { within = leb-true (length t) most short; two = eqb-true (fieldCount t) 2 two; pager = pager }
 
--- over what the bytes of a journal hold, the same rules, of which room alone asks the journal
-pub admitted-by : (most : ℕ) (pagers : List ℕ) (o : Outcome (List (List ℕ))) (t : List ℕ) →
-    admittedTo most pagers o t ≡ (leb (length t) most && eqb (fieldCount t) 2 && pages pagers (firstField t) && roomFor o (length t))
+-- a transaction that is admitted has right content, and the journal has room for it
+pub admits-parts : {J : Type 0} (most : ℕ) (pagers : List ℕ) (store : Storage J) (journal : J) (t : List ℕ) → admits most pagers store journal t ≡ true →
+    Content most pagers t × (store .room journal t ≡ true)
 unfolding admits
-admitted-by most pagers (done journal) t = refl
-admitted-by most pagers (refused n) t = rw and-false
+admits-parts most pagers store journal t h =
+    let (right, room) = and-eq-true-iff (content most pagers t) (store .room journal t) .0 h in
+    (content-parts most pagers t right, room)
 
 -- a zero in front does not change a number
 pub leading-zero : (f : List ℕ) → numberFrom 0 (0x30 ∷ f) ≡ numberFrom 0 f

@@ -1,1 +1,2 @@
 pub mod ContentLaws
+pub mod AdmissionLaws

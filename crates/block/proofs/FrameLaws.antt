@@ -4,16 +4,17 @@ use mathlib.Core.List.{List, [], _∷_, _++_, append-assoc}
 use mathlib.Core.Path.{_≡_, refl, sym, ap, _∙_}
 use Prim.Native.Nat.{ℕ, suc, _+_, _-_, _/_, _%_, _≤_, _<_}
 use native.Mathlib.Omega.{arith}
-use borrow.Author.Tests.{leb-true, eqb-true, le-leb, lt-ltb}
+use borrow.Author.Tests.{leb-true, eqb-true, le-leb, lt-ltb, le-ltb}
 use lib.Dec.{leb, eqb}
 use lib.ListN.{length, getD, take, drop, length-append, drop-of-length-le, take-append-drop}
 use lib.Seq.{drop-cons, drop-drop, take-at, drop-at, getD-at}
 use Rattle.line.specs.Answer.{Outcome, done, refused}
 use Rattle.line.specs.Character.{STX, ETX, ETB, US, CR, seven, textual}
 use Rattle.line.specs.Test.{if_then_else_, all, same}
-use Rattle.line.proofs.AllLaws.{all-append, all-weaken, same-equal, same-self}
+use Rattle.line.proofs.AllLaws.{all-append, all-weaken}
+use Rattle.line.proofs.SameLaws.{same-equal, same-self}
 use Rattle.line.proofs.TransactionLaws.{textual-seven}
-use Rattle.block.specs.Block.{endingCharacter, summed, blockOf, right, checking, Frame, inside, endingAt, checkIn, ends, endingOf, framed, summing, Segment, readBlock}
+use Rattle.block.specs.Block.{endingCharacter, summed, blockOf, right, checking, Frame, inside, endingAt, checkIn, ends, endingOf, framed, summing, Segment, readBlock, writeBlock}
 use Rattle.block.specs.Checksum.{checksum, checkCharacters}
 use Rattle.block.specs.declared.frame.Ending.{Ending}
 use Rattle.block.specs.declared.frame.Ending.the-variants.{Etx, Etb, Us}
@@ -202,6 +203,13 @@ frame-seven : {s info : List ℕ} {e : Ending} {check : List ℕ} → Frame s in
 unfolding all
 frame-seven {info} {e} {check} f h = rw (f .whole, all-append, all-append, textual-seven info h, character-seven e, all-weaken checking-seven check (f .range))
 
+-- information that its ending allows is written where there is room
+pub write-right : (info : List ℕ) (e : Ending) (room : ℕ) → length info + 6 ≤ room → length info ≤ 250 → right info e ≡ true → writeBlock info e room ≡ done (blockOf info e)
+unfolding writeBlock
+write-right info e room fits short h =
+    let text = and-eq-true-iff (all textual info) _ .0 h .0 in
+    rw (le-ltb room (length info + 6) fits, le-ltb 250 (length info) short, textual-seven info text, h)
+
 -- reading what was written gives information and ending back
 pub write-read : (info : List ℕ) (e : Ending) → length info ≤ 250 → right info e ≡ true → readBlock (blockOf info e) ≡ done (record { info = info; ending = e })
 unfolding readBlock summing
@@ -294,6 +302,10 @@ read-write s g h =
     let r = read-done s g h in
     let whole : s ≡ blockOf (g .info) (g .ending) = framed-block s (r .tests) ∙ rw (r .information, r .ending) in
     (whole, omega (arith, r .tests .short, ap length whole ∙ block-length (g .info) (g .ending)), rw (r .information, r .ending) at (r .allowed))
+
+-- it has as many characters as stand between STX and the last five
+pub read-length : (s : List ℕ) (g : Segment) → readBlock s ≡ done g → length (g .info) ≡ length s - 6
+read-length s g h = omega (arith, ap length (read-write s g h .0) ∙ block-length (g .info) (g .ending))
 
 -- what is refused by its information alone is a block of information that its ending does not allow
 pub read-six : (s : List ℕ) → readBlock s ≡ refused 6 → (s ≡ blockOf (inside s) (endingOf (endingAt s))) × (right (inside s) (endingOf (endingAt s)) ≡ false)

@@ -1,4 +1,2 @@
 pub mod FrameLaws
-pub mod ReassemblyLaws
-pub mod SegmentLaws
-pub mod SegmentationLaws
+pub mod SegmentsLaws

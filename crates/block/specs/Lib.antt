@@ -1,4 +1,3 @@
 pub mod Block
 pub mod Checksum
-pub mod Segmentation
-pub mod Reassembly
+pub mod Segments

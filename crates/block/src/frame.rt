@@ -16,7 +16,8 @@ ghost use denote.Ref.{ptr};
 ghost use lib.ListN.{length};
 ghost use Rattle.line.specs.Answer.{Wrote, mapDone, output, overlay};
 ghost use Rattle.line.specs.Test.{all};
-ghost use Rattle.block.specs.Block.{Handed, blockOf, checkIn, checking, endingCharacter, endingOf, ends, framed, readAs, readBlock, right, summed, summing, writeBlock};
+ghost use Rattle.block.specs.Block.{Handed, Within, agrees, blockOf, checkIn, checking, endingCharacter, endingOf, ends, framed};
+ghost use Rattle.block.specs.Block.{readAs, readBlock, right, summed, summing, writeBlock};
 
 // How a block ends.
 pub enum Ending {
@@ -42,7 +43,9 @@ pub const OVERHEAD: usize = 6;
 
 // A block of the information with the ending.
 pub fn write(info: &[u8], ending: Ending, out: &mut [u8]) -> Written
-    ensures { λ r. ⌜ Wrote (writeBlock (now (info .entry)) ending (length (now (out .entry)))) r (now (out .entry)) (now (out .exit)) ⌝ }
+    ensures { λ r. ⌜ Wrote
+        (writeBlock (now (info .entry)) ending (length (now (out .entry))))
+        r (now (out .entry)) (now (out .exit)) ⌝ }
 {
     let n = info.len();
     if out.len() < n + OVERHEAD {
@@ -51,14 +54,14 @@ pub fn write(info: &[u8], ending: Ending, out: &mut [u8]) -> Written
     if INFORMATION < n {
         return Written::Refused(Refusal::Length);
     }
-    if !are(info, Class::SevenBit) {
-        return Written::Refused(Refusal::Parity);
+    if is_right(info, ending) {
+        put_block(info, ending, out);
+        return Written::Count(n + OVERHEAD);
     }
-    if !is_right(info, ending) {
+    if are(info, Class::SevenBit) {
         return Written::Refused(Refusal::Information);
     }
-    put_block(info, ending, out);
-    Written::Count(n + OVERHEAD)
+    Written::Refused(Refusal::Parity)
 }
 
 // The ending of the block that the string is, with its parity taken off. `Information` is a block
@@ -97,11 +100,23 @@ pub fn information(s: &[u8]) -> &[u8]
     let Reading::Block(_) = read(s) else {
         return &s[..0];
     };
+    inside(s)
+}
+
+// The part of the string between STX and the last five: of a string that `read` has found to be a
+// block, its information. Nothing of a string shorter than any block.
+pub fn inside(s: &[u8]) -> &[u8]
+    ensures { λ r. ⌜ Within (now (s .entry)) (ptr (s .entry)) (now r) (ptr r) ⌝ }
+{
     let n = s.len();
+    if n < OVERHEAD {
+        return &s[..0];
+    }
     &s[1..n - 5]
 }
 
-pub(crate) fn put_block(info: &[u8], ending: Ending, out: &mut [u8])
+// The block, over the start of the output.
+fn put_block(info: &[u8], ending: Ending, out: &mut [u8])
     requires { ⌜ length (now info) + 6 ≤ length (now out) ⌝ }
     ensures { λ _. ⌜ now (out .exit) ≡ overlay (blockOf (now (info .entry)) ending) (now (out .entry)) ⌝ }
 {
@@ -124,21 +139,21 @@ fn put_summed(info: &[u8], ending: Ending, out: &mut [u8])
 }
 
 // The information's characters, and the rule of the ending.
-pub(crate) fn is_right(info: &[u8], ending: Ending) -> bool
+fn is_right(info: &[u8], ending: Ending) -> bool
     ensures { λ r. ⌜ r ≡ right (now (info .entry)) ending ⌝ }
 {
-    if !are(info, Class::Textual) {
-        return false;
-    }
+    are(info, Class::Textual) & is_agreed(info, ending)
+}
+
+// The rule of the ending.
+fn is_agreed(info: &[u8], ending: Ending) -> bool
+    ensures { λ r. ⌜ r ≡ agrees ending (now (info .entry)) ⌝ }
+{
+    let ended = ends_in_cr(info);
     match ending {
-        Ending::Etx => ends_in_cr(info),
-        Ending::Etb => ends_in_cr(info),
-        Ending::Us => {
-            if info.len() == 0 {
-                return false;
-            }
-            !ends_in_cr(info)
-        }
+        Ending::Etx => ended,
+        Ending::Etb => ended,
+        Ending::Us => (1 <= info.len()) & !ended,
     }
 }
 
@@ -147,16 +162,7 @@ fn is_framed(s: &[u8]) -> bool
     ensures { λ r. ⌜ r ≡ framed (now (s .entry)) ⌝ }
 {
     let n = s.len();
-    if s[0] != STX {
-        return false;
-    }
-    if !is_ending(s[n - 5]) {
-        return false;
-    }
-    if !has_check(s) {
-        return false;
-    }
-    s[n - 1] == CR
+    (s[0] == STX) & is_ending(s[n - 5]) & has_check(s) & (s[n - 1] == CR)
 }
 
 // The three characters before the last can carry a checksum.
@@ -165,13 +171,7 @@ fn has_check(s: &[u8]) -> bool
     ensures { λ r. ⌜ r ≡ all checking (checkIn (now (s .entry))) ⌝ }
 {
     let n = s.len();
-    if !is_check(s[n - 4]) {
-        return false;
-    }
-    if !is_check(s[n - 3]) {
-        return false;
-    }
-    is_check(s[n - 2])
+    is_check(s[n - 4]) & (is_check(s[n - 3]) & is_check(s[n - 2]))
 }
 
 // The check characters are those of what stands before them.
@@ -181,34 +181,19 @@ fn is_summed(s: &[u8]) -> bool
 {
     let n = s.len();
     let check = check_characters(&s[..n - 4]);
-    if s[n - 4] != check[0] {
-        return false;
-    }
-    if s[n - 3] != check[1] {
-        return false;
-    }
-    s[n - 2] == check[2]
+    (s[n - 4] == check[0]) & ((s[n - 3] == check[1]) & (s[n - 2] == check[2]))
 }
 
 fn is_ending(c: u8) -> bool
     ensures { λ r. ⌜ r ≡ ends c ⌝ }
 {
-    if c == ETX {
-        return true;
-    }
-    if c == ETB {
-        return true;
-    }
-    c == US
+    (c == ETX) | (c == ETB) | (c == US)
 }
 
 fn is_check(c: u8) -> bool
     ensures { λ r. ⌜ r ≡ checking c ⌝ }
 {
-    if c < 0x30 {
-        return false;
-    }
-    c <= 0x3F
+    (0x30 <= c) & (c <= 0x3F)
 }
 
 fn ending_of(c: u8) -> Ending

@@ -8,12 +8,13 @@ use line::memory::copy;
 use line::memory::find;
 use listing::ROOM;
 use listing::list;
-ghost use mathlib.Core.List.{List, _++_};
+ghost use mathlib.Core.List.{List, [], _++_};
+ghost use mathlib.Core.Path.{_≡_};
 ghost use Prim.Native.Nat.{ℕ, _≤_};
 ghost use lib.ListN.{length, take};
 ghost use Rattle.line.specs.Answer.{Laid};
 ghost use Rattle.listing.specs.Listing.{listing};
-ghost use Rattle.blocks.specs.Lines.{Took, Within, nothing, stays};
+ghost use Rattle.blocks.specs.Lines.{Listed, Took, Within, finished, nothing, stand, stays};
 
 // The characters of a line that are kept. A line of so many is too long already, however many more
 // follow.
@@ -28,7 +29,9 @@ struct Filled {
 // Keeps as many more characters of the present line as there is room for.
 fn keep(part: &[u8], line: &mut [u8], kept: usize) -> usize
     requires { ⌜ kept ≤ length (now line) ⌝ }
-    ensures { λ r. ⌜ Laid (take (length (now (line .entry))) (take kept (now (line .entry)) ++ now (part .entry))) r (now (line .entry)) (now (line .exit)) ⌝ }
+    ensures { λ r. ⌜ Laid
+        (take (length (now (line .entry))) (take kept (now (line .entry)) ++ now (part .entry)))
+        r (now (line .entry)) (now (line .exit)) ⌝ }
 {
     let room = line.len() - kept;
     let end = if part.len() < room { part.len() } else { room };
@@ -39,7 +42,9 @@ fn keep(part: &[u8], line: &mut [u8], kept: usize) -> usize
 // Prints what a line prints, behind what waits; writes that out first where there is no room.
 fn print(line: &[u8], out: &mut [u8], waiting: usize) -> usize
     requires { ⌜ (waiting ≤ length (now out)) × (10248 ≤ length (now out)) ⌝ }
-    ensures { λ r. ⌜ Laid (take (stays waiting (length (now (out .entry)))) (now (out .entry)) ++ listing (now (line .entry))) r (now (out .entry)) (now (out .exit)) ⌝ }
+    ensures { λ r. ⌜ Laid
+        (stays (length (now (out .entry))) (take waiting (now (out .entry))) ++ listing (now (line .entry)))
+        r (now (out .entry)) (now (out .exit)) ⌝ }
 {
     let mut at = waiting;
     if out.len() < at + ROOM {
@@ -55,7 +60,9 @@ fn print(line: &[u8], out: &mut [u8], waiting: usize) -> usize
 // One piece of the input: each line that ends in it is printed, and the start of the next is kept.
 fn take(piece: &[u8], line: &mut [u8], out: &mut [u8], filled: Filled) -> Filled
     requires { ⌜ Within filled (now line) (now out) ⌝ }
-    ensures { λ r. ⌜ Took (now (piece .entry)) (now (line .entry)) (now (out .entry)) (now (line .exit)) (now (out .exit)) filled r ⌝ }
+    ensures { λ r. ⌜ Took
+        (now (piece .entry))
+        (now (line .entry)) (now (out .entry)) (now (line .exit)) (now (out .exit)) filled r ⌝ }
 {
     let mut kept = filled.kept;
     let mut waiting = filled.waiting;
@@ -77,8 +84,10 @@ fn take(piece: &[u8], line: &mut [u8], out: &mut [u8], filled: Filled) -> Filled
 // contract can name. A proved loop has to end, and nothing says that the input does, so the loop
 // counts its turns down from a number that no run uses up.
 fn take_all(piece: &mut [u8], line: &mut [u8], out: &mut [u8]) -> Filled
-    requires { ⌜ 10248 ≤ length (now out) ⌝ }
-    ensures { λ r. ⌜ ((text : List ℕ) × Took text (now (line .entry)) (now (out .entry)) (now (line .exit)) (now (out .exit)) nothing r) ⌝ }
+    requires { ⌜ (length (now line) ≡ 2000) × (10248 ≤ length (now out)) ⌝ }
+    ensures { λ r. ⌜ ((text : List ℕ) × Took
+        text
+        (now (line .entry)) (now (out .entry)) (now (line .exit)) (now (out .exit)) nothing r) ⌝ }
 {
     let mut filled = Filled {
         kept: 0,
@@ -97,22 +106,34 @@ fn take_all(piece: &mut [u8], line: &mut [u8], out: &mut [u8]) -> Filled
     filled
 }
 
-// Prints the last line, where no LF ended it, and writes out what waits.
-fn finish(line: &[u8], out: &mut [u8], filled: Filled)
+// Prints the last line, where no LF ended it.
+fn finish(line: &[u8], out: &mut [u8], filled: Filled) -> usize
     requires { ⌜ Within filled (now line) (now out) ⌝ }
+    ensures { λ r. ⌜ Laid
+        (finished (length (now (out .entry))) (stand [] filled (now (line .entry)) (now (out .entry))) .waits)
+        r (now (out .entry)) (now (out .exit)) ⌝ }
 {
     let kept = filled.kept;
-    let mut waiting = filled.waiting;
+    let waiting = filled.waiting;
     if 0 < kept {
-        waiting = print(&line[..kept], out, waiting);
+        return print(&line[..kept], out, waiting);
     }
-    io::write_all(STDOUT_FILENO, &out[..waiting]);
+    waiting
+}
+
+// Prints all lines of the input. How many bytes wait at the end, behind what was written out.
+fn print_all(out: &mut [u8]) -> usize
+    requires { ⌜ 10248 ≤ length (now out) ⌝ }
+    ensures { λ r. ⌜ Listed (now (out .entry)) (now (out .exit)) r ⌝ }
+{
+    let mut piece = io::large_buffer();
+    let mut line = [0u8; KEPT];
+    let filled = take_all(&mut piece, &mut line, out);
+    finish(&line, out, filled)
 }
 
 fn main() {
-    let mut piece = io::large_buffer();
-    let mut line = [0u8; KEPT];
     let mut out = io::large_buffer();
-    let filled = take_all(&mut piece, &mut line, &mut out);
-    finish(&line, &mut out, filled);
+    let waiting = print_all(&mut out);
+    io::write_all(STDOUT_FILENO, &out[..waiting]);
 }

@@ -14,12 +14,12 @@ use Rattle.demand.specs.Run.{hit}
 use Rattle.demand.proofs.FaultLaws.{hit-fault}
 
 -- a string that is not hit arrives whole
-pub arrives-whole : (fate count : ℕ) (memory : List ℕ) → fate ≡ 0 → count ≤ length memory → Arrives fate (take count memory) count memory
-arrives-whole fate count memory e h = record { inside = h; arrived = sym (hit-fault fate (take count memory) ∙ rw (eq-eqb fate 0 e)) }
+pub arrives-whole : (part count : ℕ) (memory : List ℕ) → part ≡ 0 → count ≤ length memory → Arrives part (take count memory) count memory
+arrives-whole part count memory e h = record { inside = h; arrived = sym (hit-fault part (take count memory) ∙ rw (eq-eqb part 0 e)) }
 
 -- of a lost string nothing arrives
-pub arrives-lost : (fate : ℕ) (bytes memory : List ℕ) → (fate ≡ 0 → ⊥) → (fate ≡ 1 → ⊥) → Arrives fate bytes 0 memory
-arrives-lost fate bytes memory d e = record { inside = omega arith; arrived = sym (hit-fault fate bytes ∙ rw (ne-eqb fate 0 d, ne-eqb fate 1 e)) }
+pub arrives-lost : (part : ℕ) (bytes memory : List ℕ) → (part ≡ 0 → ⊥) → (part ≡ 1 → ⊥) → Arrives part bytes 0 memory
+arrives-lost part bytes memory d e = record { inside = omega arith; arrived = sym (hit-fault part bytes ∙ rw (ne-eqb part 0 d, ne-eqb part 1 e)) }
 
 -- the first byte flipped in its place garbles the string
 flipped-garbled : (count : ℕ) (memory : List ℕ) → 0 < count → count ≤ length memory → take count (set memory 0 (flipTop (getD memory 0 0))) ≡ garbled (take count memory)
@@ -28,11 +28,11 @@ flipped-garbled (suc n) [] p h = absurd (omega arith)
 flipped-garbled (suc n) (b ∷ bs) p h = refl
 
 -- a garbled string arrives with its first byte flipped
-pub arrives-garbled : (fate count b : ℕ) (memory : List ℕ) → fate ≡ 1 → 0 < count → count ≤ length memory → b ≡ flipTop (getD memory 0 0) →
-    count ≤ length (set memory 0 b) → Arrives fate (take count memory) count (set memory 0 b)
-arrives-garbled fate count b memory e p h f i =
+pub arrives-garbled : (part count b : ℕ) (memory : List ℕ) → part ≡ 1 → 0 < count → count ≤ length memory → b ≡ flipTop (getD memory 0 0) →
+    count ≤ length (set memory 0 b) → Arrives part (take count memory) count (set memory 0 b)
+arrives-garbled part count b memory e p h f i =
     let bytes = take count memory in
-    let struck : hit (damage fate bytes) bytes ≡ garbled bytes = hit-fault fate (take count memory) ∙ rw (ne-eqb fate 0 (λ z. omega arith), eq-eqb fate 1 e) in
+    let struck : hit (damage part bytes) bytes ≡ garbled bytes = hit-fault part (take count memory) ∙ rw (ne-eqb part 0 (λ z. omega arith), eq-eqb part 1 e) in
     record { inside = i; arrived = rw f (flipped-garbled count memory p h) ∙ sym struck }
 
 -- a verdict put in its place, as numbers

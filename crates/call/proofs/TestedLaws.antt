@@ -1,84 +1,91 @@
--- The tests of a call: which case of `tested` they leave.
-use mathlib.Core.Bool.{true, false}
+-- The tests of a call: which case of `tested` they leave, and what a call has once they are passed.
+use mathlib.Core.Bool.{Bool, true, false, not, _&&_, and-eq-true-iff}
 use mathlib.Core.List.{List}
-use mathlib.Core.Path.{_≡_, refl, sym, _∙_}
+use mathlib.Core.Path.{_≡_, sym, ap, _∙_}
 use Prim.Native.Nat.{ℕ}
-use borrow.Author.Tests.{eq-eqb, ne-eqb}
+use borrow.Author.Tests.{not-false}
 use lib.ListN.{length}
-use Rattle.line.specs.Answer.{Outcome, done, refused, mapDone, andThen}
+use Rattle.line.proofs.OutcomeLaws.{map-done, then-done, map-refused, passed}
+use Rattle.line.specs.Answer.{Outcome, done, refused, mapDone, output}
 use Rattle.line.specs.Test.{all}
-use Rattle.journal.specs.Append.{decodeIn}
+use Rattle.journal.specs.Storage.{decodeIn, isBuffer}
 use Rattle.journal.specs.Walk.{decode}
-use Rattle.central.specs.Step as CentralStep
-use Rattle.central.specs.declared.state.Settings as CentralSettings
-use Rattle.device.specs.Step as DeviceStep
-use Rattle.device.specs.declared.state.Settings as DeviceSettings
-use Rattle.call.specs.Call.{fault}
-use Rattle.call.specs.Inner.{endsInRange, tested}
+use Rattle.call.specs.Call.{Setup, endsInRange, fault, inputsOf, tested}
+use Rattle.call.specs.Driver.{jobOf, Sound}
+use Rattle.call.specs.Inner.{inputsIn}
 
 -- a call
-module _ (d : DeviceSettings.Settings) (c : CentralSettings.Settings) (pagers job buffer : List ℕ) (n : ℕ) (faults : List ℕ) where
-  -- what the tests come to
-  abbrev result : Outcome ℕ
-  result = tested d c pagers job buffer n faults
+module _ (s : Setup) (buffer : List ℕ) (n : ℕ) (faults : List ℕ) where
+  -- the number of transactions, where the tests are passed
+  abbrev pub count : Outcome ℕ
+  count = mapDone (λ i. length (i .job)) (tested s buffer n faults)
 
-  -- settings or the pager list are out of range
-  pub ends-refused : endsInRange d c pagers ≡ false → refused 9 ≡ result
+  -- settings and pager list are in range
+  abbrev ranged : Bool
+  ranged = endsInRange (s .device) (s .central) (s .pagers)
+
+  -- they are not
+  pub ends-refused : ranged ≡ false → refused 9 ≡ count
   unfolding tested
   ends-refused e = rw e
 
-  -- settings and pager list are in range
-  module _ (ends : endsInRange d c pagers ≡ true) where
-    -- a fault is not
-    pub faults-refused : all fault faults ≡ false → refused 9 ≡ result
+  module _ (ends : ranged ≡ true) where
+    -- a fault is not in range
+    pub faults-refused : all fault faults ≡ false → refused 9 ≡ count
     unfolding tested
     faults-refused e = rw (ends, e)
 
-    -- so are the faults
     module _ (right : all fault faults ≡ true) where
       -- the journal's buffer has the wrong size
-      pub size-refused : (length buffer ≡ 32004 → ⊥) → refused 1 ≡ result
+      pub size-refused : isBuffer buffer ≡ false → refused 1 ≡ count
       unfolding tested
-      size-refused e = rw (ends, right, ne-eqb (length buffer) 32004 e)
+      size-refused e = rw (ends, right, e)
 
-      -- the buffer has its size
-      module _ (size : length buffer ≡ 32004) where
-        -- job and journal decide
-        sized : result ≡ andThen (decode job) (λ ts. mapDone (λ js. length ts) (decodeIn buffer n))
-        unfolding tested
-        sized = rw (ends, right, eq-eqb (length buffer) 32004 size)
-
+      module _ (size : isBuffer buffer ≡ true) where
         -- the job is not well formed
-        pub job-refused : (k : ℕ) → mapDone length (decode job) ≡ refused k → refused k ≡ result
-        job-refused k e = sym (sized ∙ go (decode job) e)
-          where
-            go : (o : Outcome (List (List ℕ))) → mapDone length o ≡ refused k → andThen o (λ ts. mapDone (λ js. length ts) (decodeIn buffer n)) ≡ refused k
-            go (done ts) h = cc
-            go (refused m) h = cc
+        pub job-refused : (k : ℕ) → mapDone length (decode (s .job)) ≡ refused k → refused k ≡ count
+        unfolding tested
+        job-refused k e = rw (ends, right, size, map-refused length (decode (s .job)) k e)
 
-        -- the job is read
-        module _ (m : ℕ) (counts : mapDone length (decode job) ≡ done m) where
-          -- the journal decides
-          counted : result ≡ mapDone (λ js. m) (decodeIn buffer n)
-          counted = sized ∙ go (decode job) counts
-            where
-              go : (o : Outcome (List (List ℕ))) → mapDone length o ≡ done m →
-                  andThen o (λ ts. mapDone (λ js. length ts) (decodeIn buffer n)) ≡ mapDone (λ js. m) (decodeIn buffer n)
-              go (done ts) h = let long : length ts ≡ m = cc in rw long
-              go (refused k) h = cc
-
+        -- the job has so many transactions
+        module _ (m : ℕ) (counts : mapDone length (decode (s .job)) ≡ done m) where
           -- the journal is not well formed
-          pub journal-refused : (k : ℕ) → mapDone length (decodeIn buffer n) ≡ refused k → refused k ≡ result
-          journal-refused k e = sym (counted ∙ go (decodeIn buffer n) e)
-            where
-              go : (o : Outcome (List (List ℕ))) → mapDone length o ≡ refused k → mapDone (λ js. m) o ≡ refused k
-              go (done ts) h = cc
-              go (refused m) h = cc
+          pub journal-refused : (k : ℕ) → mapDone length (decodeIn buffer n) ≡ refused k → refused k ≡ count
+          unfolding tested
+          journal-refused k e =
+              let (ts, read, _) = map-done length (decode (s .job)) m counts in
+              rw (ends, right, size, read, map-refused length (decodeIn buffer n) k e)
 
           -- it is read
-          pub journal-read : (k : ℕ) → mapDone length (decodeIn buffer n) ≡ done k → done m ≡ result
-          journal-read k e = sym (counted ∙ go (decodeIn buffer n) e)
-            where
-              go : (o : Outcome (List (List ℕ))) → mapDone length o ≡ done k → mapDone (λ js. m) o ≡ done m
-              go (done ts) h = refl
-              go (refused m) h = cc
+          pub journal-read : (k : ℕ) → mapDone length (decodeIn buffer n) ≡ done k → done m ≡ count
+          unfolding tested
+          journal-read k e =
+              let (ts, read, long) = map-done length (decode (s .job)) m counts in
+              let (js, held, _) = map-done length (decodeIn buffer n) k e in
+              rw (ends, right, size, read, held) (ap done (sym long))
+
+  -- what a call has that passed the tests
+  pub record Passed (m : ℕ) : Type 0 where
+    pub sound : Sound s
+    pub read : decodeIn buffer n ≡ done (output (decodeIn buffer n))
+    pub made : tested s buffer n faults ≡ done (inputsIn s buffer n)
+    pub counts : m ≡ length (jobOf s)
+
+  -- it passed them where the transactions are counted
+  pub tested-passed : (m : ℕ) → count ≡ done m → Passed m
+  unfolding tested
+  tested-passed m counted =
+      let (i, made, long) = map-done (λ i. length (i .job)) (tested s buffer n faults) m counted in
+      let (tests, r) = passed (not (ranged && all fault faults)) 9 _ i made in
+      let (_, r₂) = passed (not (isBuffer buffer)) 1 _ i r in
+      let (ts, read, r₃) = then-done (decode (s .job)) _ i r₂ in
+      let (js, held, same) = map-done (inputsOf s ts) (decodeIn buffer n) i r₃ in
+      let job : jobOf s ≡ ts = ap output read in
+      let journal : output (decodeIn buffer n) ≡ js = ap output held in
+      let inputs : i ≡ inputsIn s buffer n = sym same ∙ rw (job, journal) in
+      record {
+        sound = record { ranged = and-eq-true-iff ranged (all fault faults) .0 (not-false _ tests) .0; read = rw job read };
+        read = rw journal held;
+        made = rw (← inputs) made;
+        counts = rw (← long, inputs);
+      }

@@ -1,2 +1,3 @@
 pub mod Call
+pub mod Driver
 pub mod Inner

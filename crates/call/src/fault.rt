@@ -7,18 +7,20 @@ ghost use Rattle.line.specs.Test.{all};
 ghost use Rattle.call.specs.Call as Call;
 ghost use Rattle.call.specs.Inner.{Arrives};
 
+// How many faults there are: 3 of a string times 3 of its answer.
+const FAULTS: u8 = 9;
+
 // Every fault is 0 to 8.
 pub(crate) fn are_faults(faults: &[u8]) -> bool
     ensures { λ r. ⌜ r ≡ all Call.fault (now (faults .entry)) ⌝ }
 {
+    let mut every = true;
     let mut i = 0;
     while i < faults.len() {
-        if 9 <= faults[i] {
-            return false;
-        }
+        every = every & (faults[i] < FAULTS);
         i += 1;
     }
-    true
+    every
 }
 
 // The fault of a transmission; past the end of the list it is 0.
@@ -31,16 +33,16 @@ pub(crate) fn fault_at(faults: &[u8], index: usize) -> u8
     0
 }
 
-// What arrives of the string of this length at the start of the memory: so many bytes there. 0 is
-// whole, 1 garbled, 2 lost.
-pub(crate) fn arrive(fate: u8, count: usize, memory: &mut [u8]) -> usize
+// What arrives of the string of this length at the start of the memory: so many bytes there. Its
+// part of a fault is 0 for whole, 1 for garbled, 2 for lost.
+pub(crate) fn arrive(part: u8, count: usize, memory: &mut [u8]) -> usize
     requires { ⌜ count ≤ length (now memory) ⌝ }
-    ensures { λ r. ⌜ Arrives fate (take count (now (memory .entry))) r (now (memory .exit)) ⌝ }
+    ensures { λ r. ⌜ Arrives part (take count (now (memory .entry))) r (now (memory .exit)) ⌝ }
 {
-    if fate == 0 {
+    if part == 0 {
         return count;
     }
-    if fate != 1 {
+    if part != 1 {
         return 0;
     }
     if count == 0 {

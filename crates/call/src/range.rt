@@ -3,16 +3,15 @@ use crate::fault::are_faults;
 use central::range::pagers_in_range;
 use central::range::settings_in_range as central_in_range;
 use device::range::settings_in_range as device_in_range;
-use journal::append::check_in;
+use journal::buffer::check_in;
+use journal::buffer::is_buffer;
 use journal::record::check;
+use line::Checked;
 use line::Refusal;
-use line::Written;
 ghost use mathlib.Core.Path.{_≡_};
-ghost use Rattle.line.specs.Answer.{writtenAs};
-ghost use Rattle.call.specs.Inner.{endsInRange, tested};
-
-// The size of a journal's buffer.
-const BUFFER: usize = 32004;
+ghost use lib.ListN as ListN;
+ghost use Rattle.line.specs.Answer.{mapDone, checkedAs};
+ghost use Rattle.call.specs.Call.{endsInRange, setup, tested};
 
 // How many transactions the job has, or why the call is refused; the verdict buffer is tested later.
 pub(crate) fn test(
@@ -23,24 +22,28 @@ pub(crate) fn test(
     journal: &[u8],
     length: usize,
     faults: &[u8],
-) -> Written
-    ensures { λ r. ⌜ writtenAs r ≡ tested device central (now (pagers .entry)) (now (job .entry)) (now (journal .entry)) length (now (faults .entry)) ⌝ }
+) -> Checked
+    ensures { λ r. ⌜
+        checkedAs r ≡ mapDone (λ i. ListN.length (i .job))
+        (tested (setup device central (now (pagers .entry)) (now (job .entry)))
+        (now (journal .entry)) length (now (faults .entry)))
+        ⌝ }
 {
     if !ends_in_range(device, central, pagers) {
-        return Written::Refused(Refusal::Range);
+        return Checked::Refused(Refusal::Range);
     }
     if !are_faults(faults) {
-        return Written::Refused(Refusal::Range);
+        return Checked::Refused(Refusal::Range);
     }
-    if journal.len() != BUFFER {
-        return Written::Refused(Refusal::Size);
+    if !is_buffer(journal) {
+        return Checked::Refused(Refusal::Size);
     }
     let counted = check(job);
-    let Written::Count(_) = counted else {
+    let Checked::Count(_) = counted else {
         return counted;
     };
     let checked = check_in(journal, length);
-    let Written::Count(_) = checked else {
+    let Checked::Count(_) = checked else {
         return checked;
     };
     counted

@@ -4,7 +4,10 @@ use crate::exchange::exchange;
 use crate::fault::fault_at;
 use crate::range::test;
 use central::step::start as start_central;
+use device::Verdict;
+use device::state::verdict_number;
 use device::step::start as start_device;
+use line::Checked;
 use line::Refusal;
 use line::Written;
 ghost use mathlib.Core.List.{map};
@@ -12,10 +15,8 @@ ghost use mathlib.Core.Path.{_≡_};
 ghost use lib.ListN as ListN;
 ghost use Rattle.device.specs.Reaction.{verdictNumber};
 ghost use Rattle.device.specs.declared.state.Verdict.the-variants.{Unsent};
-ghost use Rattle.call.specs.Call.{Runs, called};
-ghost use Rattle.demand.specs.Faults.{faulted};
-ghost use Rattle.call.specs.Inner.{Begins, Plays, Ready, inputsIn};
-ghost use Rattle.demand.specs.Run.{final};
+ghost use Rattle.call.specs.Call.{Runs, called, setup};
+ghost use Rattle.call.specs.Inner.{Begins, Plays, Ready, endsOf};
 
 // What a run comes to: the strings that the device put out, and the journal's new length.
 pub struct Totals {
@@ -42,11 +43,18 @@ pub fn run(
     faults: &[u8],
     verdicts: &mut [u8],
 ) -> Ran
-    ensures { λ r. ⌜ Runs (called device central (now (pagers .entry)) (now (job .entry)) (now (journal .entry)) length (now (faults .entry)) (ListN.length (now (verdicts .entry)))) r (now (journal .entry)) (now (journal .exit)) (now (verdicts .entry)) (now (verdicts .exit)) ⌝ }
+    ensures { λ r. ⌜
+        Runs
+        (called (setup device central (now (pagers .entry)) (now (job .entry)))
+        (now (journal .entry)) length (now (faults .entry)) (ListN.length (now (verdicts .entry))))
+        r
+        (now (journal .entry)) (now (journal .exit))
+        (now (verdicts .entry)) (now (verdicts .exit))
+        ⌝ }
 {
     let tested = test(job, device, central, pagers, journal, length, faults);
     match tested {
-        Written::Count(count) => {
+        Checked::Count(count) => {
             if verdicts.len() != count {
                 return Ran::Refused(Refusal::Size);
             }
@@ -61,7 +69,7 @@ pub fn run(
                 verdicts,
             ))
         }
-        Written::Refused(refusal) => Ran::Refused(refusal),
+        Checked::Refused(refusal) => Ran::Refused(refusal),
     }
 }
 
@@ -77,8 +85,13 @@ fn begin(
     faults: &[u8],
     verdicts: &mut [u8],
 ) -> Totals
-    requires { ⌜ Ready device central (now pagers) (now job) (now journal) length (now verdicts) ⌝ }
-    ensures { λ r. ⌜ (let i = inputsIn device central (now (pagers .entry)) (now (job .entry)) (now (journal .entry)) length in Plays (final i (faulted i (now (faults .entry)))) r (now (journal .entry)) (now (journal .exit)) (now (verdicts .exit))) ⌝ }
+    requires { ⌜ Ready (setup device central (now pagers) (now job)) (now journal) length (now verdicts) ⌝ }
+    ensures { λ r. ⌜
+        Plays
+        (endsOf (setup device central (now (pagers .entry)) (now (job .entry)))
+        (now (journal .entry)) length (now (faults .entry)))
+        r (now (journal .entry)) (now (journal .exit)) (now (verdicts .exit))
+        ⌝ }
 {
     clear(verdicts);
     let mut memory = [0u8; 256];
@@ -90,15 +103,14 @@ fn begin(
             journal: length,
         };
     };
-    let desk = started.state;
-    let host = start_central(length);
-    let ends = Saved {
-        device: desk,
-        central: host,
+    let state = started.state;
+    let first = Saved {
+        device: state,
+        central: start_central(length),
         count,
     };
     play(
-        ends,
+        first,
         job,
         device,
         central,
@@ -112,11 +124,14 @@ fn begin(
 
 // Every verdict is unsent.
 fn clear(verdicts: &mut [u8])
-    ensures { λ _. ⌜ now (verdicts .exit) ≡ map verdictNumber (ListN.replicate (ListN.length (now (verdicts .entry))) Unsent) ⌝ }
+    ensures { λ _. ⌜
+        now (verdicts .exit) ≡ map verdictNumber (ListN.replicate (ListN.length (now (verdicts .entry))) Unsent)
+        ⌝ }
 {
+    let unsent = verdict_number(Verdict::Unsent);
     let mut i = 0;
     while i < verdicts.len() {
-        verdicts[i] = 5;
+        verdicts[i] = unsent;
         i += 1;
     }
 }
@@ -133,8 +148,15 @@ fn play(
     memory: &mut [u8],
     verdicts: &mut [u8],
 ) -> Totals
-    requires { ⌜ (ListN.length (now memory) ≡ 256) × Begins device central (now pagers) (now job) (inputsIn device central (now pagers) (now job) (now journal) (first .central .journal)) first (now journal) (now memory) (now verdicts) ⌝ }
-    ensures { λ r. ⌜ (let i = inputsIn device central (now (pagers .entry)) (now (job .entry)) (now (journal .entry)) (first .central .journal) in Plays (final i (faulted i (now (faults .entry)))) r (now (journal .entry)) (now (journal .exit)) (now (verdicts .exit))) ⌝ }
+    requires { ⌜
+        Begins (setup device central (now pagers) (now job)) first (now journal) (now memory) (now verdicts)
+        ⌝ }
+    ensures { λ r. ⌜
+        Plays
+        (endsOf (setup device central (now (pagers .entry)) (now (job .entry)))
+        (now (journal .entry)) (first .central .journal) (now (faults .entry)))
+        r (now (journal .entry)) (now (journal .exit)) (now (verdicts .exit))
+        ⌝ }
 {
     let mut ends = first;
     let mut transmissions = 0;
@@ -153,9 +175,8 @@ fn play(
         );
         transmissions += 1;
     }
-    let host = ends.central;
     Totals {
         transmissions,
-        journal: host.journal,
+        journal: ends.central.journal,
     }
 }

@@ -1,26 +1,30 @@
--- The answer on the line: its characters have their parity set.
+-- The answers on the line: made of 7-bit values, and at most seven of them.
 use mathlib.Core.Bool.{true}
-use mathlib.Core.List.{List, map}
-use mathlib.Core.Path.{_≡_}
-use Prim.Native.Nat.{ℕ, _≤_}
+use mathlib.Core.Path.{_≡_, refl}
+use Prim.Native.Nat.{_≤_}
 use native.Mathlib.Omega.{arith}
-use borrow.Author.Tests.{le-ltb}
 use lib.ListN.{length}
-use Rattle.line.specs.Answer.{done, Wrote}
 use Rattle.line.specs.Character.{seven}
-use Rattle.line.specs.Parity.{parityOn, withParity}
 use Rattle.line.specs.Test.{all}
-use Rattle.line.specs.declared.answer.Written.{Written}
-use Rattle.central.specs.Inner.{answerOf}
-use Rattle.central.specs.Reaction.{answerText, answerBytes}
-use Rattle.central.specs.declared.answer.Answer.{Answer}
+use Rattle.central.specs.Reaction.{Answer, nothing, idRequest, acceptance, ack, nak, rs, hangUp, answerText}
 
--- characters for which there is room are set (general)
-parity-made : (text : List ℕ) (room : ℕ) → length text ≤ room → all seven text ≡ true → parityOn text room ≡ done (map withParity text)
-unfolding parityOn
-parity-made text room h s = rw (le-ltb room (length text) h, s)
+-- an answer is made of 7-bit values
+pub answer-seven : (a : Answer) → all seven (answerText a) ≡ true
+unfolding all
+answer-seven nothing = refl
+answer-seven idRequest = refl
+answer-seven acceptance = refl
+answer-seven ack = refl
+answer-seven nak = refl
+answer-seven rs = refl
+answer-seven hangUp = refl
 
--- what was written is the answer, where its characters were
-pub answered : {a b : Answer} {text before after : List ℕ} {r : Written} → a ≡ b → Wrote (parityOn text (length before)) r before after → answerText (answerOf b) ≡ text →
-    all seven text ≡ true → length text ≤ 7 → 7 ≤ length before → Wrote (done (answerBytes (answerOf a))) r before after
-answered {text} {before} e w t s l h = rw (e, t) (rw (parity-made text (length before) (omega arith) s) at w)
+-- at most seven of them
+pub answer-short : (a : Answer) → length (answerText a) ≤ 7
+answer-short nothing = omega arith
+answer-short idRequest = omega arith
+answer-short acceptance = omega arith
+answer-short ack = omega arith
+answer-short nak = omega arith
+answer-short rs = omega arith
+answer-short hangUp = omega arith

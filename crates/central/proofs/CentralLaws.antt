@@ -9,18 +9,19 @@ use lib.Dec.{ltb}
 use lib.ListN.{length, length-take}
 use Rattle.line.proofs.OutcomeLaws.{map-done, passed}
 use Rattle.line.proofs.OverlayLaws.{overlay-start}
-use Rattle.line.specs.Answer.{done, overlay}
+use Rattle.line.specs.Answer.{done}
 use Rattle.line.specs.Character.{byte, textual}
 use Rattle.line.specs.Test.{all}
-use Rattle.journal.proofs.AppendLaws.{decode-in-parts, journal-decodes}
-use Rattle.journal.specs.Append.{decodeIn}
-use Rattle.journal.specs.Encoding.{encode, Journal}
+use Rattle.journal.proofs.StorageLaws.{put-journal, read-buffer, read-journal, stored-read}
+use Rattle.journal.specs.Encoding.{Journal}
+use Rattle.journal.specs.Storage.{transactions, decodeIn, sizeOf, storedIn}
+use Rattle.admission.proofs.ContentLaws.{admits-parts}
 use Rattle.central.proofs.RangeLaws.{settings-longest}
 use Rattle.central.proofs.HearingLaws.{heard-right}
-use Rattle.central.proofs.KeepLaws.{Within, Keeps, reacts-keeps}
+use Rattle.central.proofs.KeepLaws.{Within, Stored, Keeps, reacts-keeps}
 use Rattle.central.specs.Hearing.{heard}
 use Rattle.central.specs.Reaction.{Rules, Central, Reaction}
-use Rattle.central.specs.Step.{settingsInRange, pagersInRange, pendingText, failuresInRange, lengthInRange, stateInRange, rulesOf, centralOf, saved, stepped}
+use Rattle.central.specs.Step.{settingsInRange, pagersInRange, pendingText, failuresInRange, lengthInRange, stateInRange, rulesOf, centralOf, saved, savedAs, tested, stepped}
 use Rattle.central.specs.declared.state.Settings.{Settings}
 use Rattle.central.specs.declared.state.Stage.{Stage}
 use Rattle.central.specs.declared.state.Stage.the-variants.{Idle, Logon, Block, Closed}
@@ -41,32 +42,39 @@ state-within s settings pagers ts h =
     record { row = row; short = shorter-short (s .stage) (settings .longest) (s .length) (length (pendingText s)) (rw length-take (omega arith)) short; text = text }
 
 -- a central within its rules is saved as a state in range
-within-state : (c : Central) (settings : Settings) (pagers array : List ℕ) → Within (rulesOf settings pagers) c → stateInRange settings (saved c array) ≡ true
-within-state c settings pagers array w = rw (w .row, w .short, overlay-start (c .pending) array (length (c .pending)) refl, w .text)
+within-state : {J : Type 0} (r : Rules J) (c : Central J) (settings : Settings) (n : ℕ) (array : List ℕ) → r .longest ≡ settings .longest → r .retries ≡ settings .retries →
+    Within r c → stateInRange settings (saved c n array) ≡ true
+within-state r c settings n array l k w = rw (← l, ← k, w .row, w .short, overlay-start (c .pending) array (length (c .pending)) refl, w .text)
+
+-- a list of transactions that admits one more is well formed with it
+transactions-stored : (settings : Settings) (pagers : List ℕ) → Stored (rulesOf settings pagers) Journal
+transactions-stored settings pagers ts t j good fits = put-journal ts t j good (admits-parts (settings .longest) pagers transactions ts t fits .1)
 
 -- a step that is not refused
-module _ (s : State) (settings : Settings) (pagers buffer string : List ℕ) (room : ℕ) (x : Reaction) (step : stepped s settings pagers buffer string room ≡ done x) where
+module _ (s : State) (settings : Settings) (pagers buffer string : List ℕ) (room : ℕ) (x : Reaction (List (List ℕ))) (step : stepped s settings pagers buffer string room ≡ done x) where
   -- its settings and its state are in range, the journal is read, and the central within its rules reacted
-  step-reacted : (settings .longest ≤ 2000) × (ts : List (List ℕ)) × (decodeIn buffer (s .journal) ≡ done ts) × Keeps (rulesOf settings pagers) (centralOf s ts) x
-  unfolding stepped
+  step-reacted : (settings .longest ≤ 2000) × (ts : List (List ℕ)) × (decodeIn buffer (s .journal) ≡ done ts) × Keeps Journal (rulesOf settings pagers) (centralOf s ts) x
+  unfolding stepped tested
   step-reacted =
-      let (tests, r) = passed (not (settingsInRange settings && pagersInRange pagers && stateInRange settings s)) _ _ _ step in
-      let (_, q) = passed (ltb room 7) _ _ _ r in
-      let (ts, read, e) = map-done _ (decodeIn buffer (s .journal)) x q in
+      let (ts, tested, e) = map-done _ _ x step in
+      let (tests, r) = passed (not (settingsInRange settings && pagersInRange pagers && stateInRange settings s)) _ _ _ tested in
+      let (_, read) = passed (ltb room 7) _ _ _ r in
       let (lists, state) = and-eq-true-iff (settingsInRange settings && pagersInRange pagers) (stateInRange settings s) .0 (not-false _ tests) in
       let most = settings-longest settings (and-eq-true-iff (settingsInRange settings) (pagersInRange pagers) .0 lists .0) in
-      let rules : Rules = rulesOf settings pagers in
-      let c : Central = centralOf s ts in
-      let keeps = reacts-keeps rules c (state-within s settings pagers ts state) most (s .stage) refl (heard (s .stage) string) (heard-right (s .stage) string) in
-      (most, ts, read, subst (Keeps rules c) e keeps)
+      let rules : Rules (List (List ℕ)) = rulesOf settings pagers in
+      let c : Central (List (List ℕ)) = centralOf s ts in
+      let keeps = reacts-keeps Journal rules (transactions-stored settings pagers) c (state-within s settings pagers ts state) most (heard (s .stage) string) (heard-right (s .stage) string) in
+      (most, ts, read, subst (Keeps Journal rules c) e keeps)
 
   -- it leaves a state in range
-  pub step-in-range : stateInRange settings (saved (x .next) (s .pending)) ≡ true
-  step-in-range = within-state (x .next) settings pagers (s .pending) (step-reacted .3 .within)
+  pub step-in-range : stateInRange settings (savedAs x (s .pending)) ≡ true
+  step-in-range = within-state (rulesOf settings pagers) (x .next) settings (sizeOf (x .next .journal)) (s .pending) refl refl (step-reacted .3 .within)
 
   -- it leaves a well-formed journal, which is read from its bytes laid over the buffer
-  pub step-journal : all byte buffer ≡ true → Journal (x .next .journal) × (decodeIn (overlay (encode (x .next .journal)) buffer) (length (encode (x .next .journal))) ≡ done (x .next .journal))
+  pub step-journal : all byte buffer ≡ true →
+      let ts = x .next .journal in
+      Journal ts × (decodeIn (storedIn (done ts) buffer) (sizeOf ts) ≡ done ts)
   step-journal bytes =
       let (_, ts, read, k) = step-reacted in
-      let (size, _, _, j) = decode-in-parts buffer (s .journal) ts bytes read in
-      (k .journal j, journal-decodes buffer (x .next .journal) size (k .journal j))
+      let j = k .journal (read-journal buffer (s .journal) ts bytes read) in
+      (j, stored-read buffer (x .next .journal) (read-buffer buffer (s .journal) ts bytes read) j)

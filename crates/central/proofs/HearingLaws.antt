@@ -8,7 +8,7 @@ use borrow.Author.Tests.{le-leb, leb-true}
 use lib.Dec.{leb, ltb, eqb}
 use lib.ListN.{length, take, drop, length-append, take-append-drop}
 use lib.Seq.{take-at, drop-at, drop-drop}
-use Rattle.line.proofs.AllLaws.{same-equal}
+use Rattle.line.proofs.SameLaws.{same-equal}
 use Rattle.line.proofs.ParityLaws.{flip-odd, with-off}
 use Rattle.line.specs.Answer.{Outcome, done, refused}
 use Rattle.line.specs.Character.{CR, EOT, ESC, seven, alphanumeric}
@@ -19,9 +19,9 @@ use Rattle.block.proofs.FrameLaws.{write-read, read-write}
 use Rattle.block.specs.Block.{Segment, blockOf, right, readBlock}
 use Rattle.block.specs.declared.frame.Ending.{Ending}
 use Rattle.line.proofs.OutcomeLaws.{choice}
-use Rattle.central.specs.Hearing.{Heard, silence, noise, hello, logon, block, between, logsOn, heardBlock, recognized, heardText, heard}
+use Rattle.central.specs.Hearing.{Heard, silence, noise, hello, helloAgain, logon, bye, block, misfit, middle, logsOn, heardBlock, recognized, heardText, heard}
 use Rattle.central.specs.declared.state.Stage.{Stage}
-use Rattle.central.specs.declared.state.Stage.the-variants.{Idle, Logon, Block, Closed}
+use Rattle.central.specs.declared.state.Stage.the-variants.{Idle, Logon, Block}
 
 -- the empty string is silence
 pub heard-empty : (stage : Stage) → heard stage [] ≡ silence
@@ -49,7 +49,7 @@ unfolding recognized same
 text-heard text s l h =
     let t : List ℕ = ESC ∷ text ++ CR ∷ [] in
     let long : length (text ++ CR ∷ []) ≡ length text + 1 = length-append text (CR ∷ []) in
-    let inner : between t ≡ text = take-at text (CR ∷ []) (length t - 2) (omega arith) in
+    let inner : middle t ≡ text = take-at text (CR ∷ []) (length t - 2) (omega arith) in
     let last : drop (length t - 1) t ≡ CR ∷ [] = drop-at (ESC ∷ text) (CR ∷ []) (length t - 1) (omega arith) in
     rw (le-leb 5 (length t) (omega arith), le-leb (length t) 11 (omega arith), inner, h, last)
 
@@ -58,23 +58,23 @@ pub heard-text : (t text : List ℕ) → recognized Logon t ≡ logon text → (
 unfolding recognized
 heard-text t text h = go (same t (CR ∷ [])) (logsOn t) refl h
   where
-    go : (b d : Bool) → logsOn t ≡ d → (if b then hello else if d then logon (between t) else noise) ≡ logon text →
+    go : (b d : Bool) → logsOn t ≡ d → (if b then helloAgain else if d then logon (middle t) else noise) ≡ logon text →
         (t ≡ ESC ∷ text ++ CR ∷ []) × (3 ≤ length text) × (length text ≤ 9) × (all alphanumeric text ≡ true)
     go true d e h = absurd (false≢true cc)
     go false false e h = absurd (false≢true cc)
     go false true e h =
         let n = length t in
-        let (four, end) = and-eq-true-iff (leb 5 n && leb n 11 && same (take 1 t) (ESC ∷ []) && all alphanumeric (between t)) (same (drop (n - 1) t) (CR ∷ [])) .0 e in
-        let (three, letters) = and-eq-true-iff (leb 5 n && leb n 11 && same (take 1 t) (ESC ∷ [])) (all alphanumeric (between t)) .0 four in
+        let (four, end) = and-eq-true-iff (leb 5 n && leb n 11 && same (take 1 t) (ESC ∷ []) && all alphanumeric (middle t)) (same (drop (n - 1) t) (CR ∷ [])) .0 e in
+        let (three, letters) = and-eq-true-iff (leb 5 n && leb n 11 && same (take 1 t) (ESC ∷ [])) (all alphanumeric (middle t)) .0 four in
         let (two, first) = and-eq-true-iff (leb 5 n && leb n 11) (same (take 1 t) (ESC ∷ [])) .0 three in
         let (least, most) = and-eq-true-iff (leb 5 n) (leb n 11) .0 two in
         let short = leb-true 5 n least in
         let long = leb-true n 11 most in
         let from : 1 + (n - 2) ≡ n - 1 = omega arith in
-        let rest : drop 1 t ≡ between t ++ drop (n - 1) t = sym (take-append-drop (n - 2) (drop 1 t)) ∙ ap (λ l. between t ++ l) (drop-drop (n - 2) 1 t ∙ rw from) in
-        let whole : t ≡ ESC ∷ between t ++ CR ∷ [] =
-        sym (take-append-drop 1 t) ∙ ap (λ l. l ++ drop 1 t) (same-equal (take 1 t) (ESC ∷ []) first) ∙ ap (λ l. ESC ∷ l) (rest ∙ ap (λ l. between t ++ l) (same-equal (drop (n - 1) t) (CR ∷ []) end)) in
-        let same-text : between t ≡ text = cc in
+        let rest : drop 1 t ≡ middle t ++ drop (n - 1) t = sym (take-append-drop (n - 2) (drop 1 t)) ∙ ap (λ l. middle t ++ l) (drop-drop (n - 2) 1 t ∙ rw from) in
+        let whole : t ≡ ESC ∷ middle t ++ CR ∷ [] =
+        sym (take-append-drop 1 t) ∙ ap (λ l. l ++ drop 1 t) (same-equal (take 1 t) (ESC ∷ []) first) ∙ ap (λ l. ESC ∷ l) (rest ∙ ap (λ l. middle t ++ l) (same-equal (drop (n - 1) t) (CR ∷ []) end)) in
+        let same-text : middle t ≡ text = cc in
         let count : length t ≡ length text + 2 = ap length whole ∙ rw (length-append, same-text) (omega arith) in
         (rw same-text at whole, omega arith, omega arith, rw same-text at letters)
 
@@ -89,33 +89,53 @@ unfolding recognized same blockOf
 block-heard info e l h = ap heardBlock (write-read info e l h)
 
 -- what is heard is a block only if the outcome of reading is
-abbrev Reads : Outcome Segment → Segment → Heard → Type 0
+abbrev Reads : Outcome Segment → Segment → Heard Block → Type 0
 Reads o g x = x ≡ block g → o ≡ done g
 
 -- a text recognized as a block reads as one
-recognized-read : (stage : Stage) (t : List ℕ) (g : Segment) → Reads (readBlock t) g (recognized stage t)
+recognized-read : (t : List ℕ) (g : Segment) → Reads (readBlock t) g (recognized Block t)
 unfolding recognized
-recognized-read Idle t g = choice (Reads (readBlock t) g) (same t (CR ∷ [])) (λ _ e. cc) (λ _ e. cc)
-recognized-read Logon t g = choice (Reads (readBlock t) g) (same t (CR ∷ [])) (λ _ e. cc) (λ _. choice (Reads (readBlock t) g) (logsOn t) (λ _ e. cc) (λ _ e. cc))
-recognized-read Block t g = choice (Reads (readBlock t) g) (same t (EOT ∷ CR ∷ [])) (λ _ e. cc) (λ _. go (readBlock t))
+recognized-read t g = choice (Reads (readBlock t) g) (same t (EOT ∷ CR ∷ [])) (λ _ e. cc) (λ _. go (readBlock t))
   where
     go : (o : Outcome Segment) → Reads o g (heardBlock o)
     go (done f) = λ e. cc
     go (refused n) = choice (Reads (refused n) g) (eqb n 6) (λ _ e. cc) (λ _ e. cc)
-recognized-read Closed t g = λ e. cc
 
 -- a string heard as a block is, without parity, a block that reads
-heard-read : (stage : Stage) (string : List ℕ) (g : Segment) → heard stage string ≡ block g → (t : List ℕ) × (parityOff string 256 ≡ done t) × (readBlock t ≡ done g)
+heard-read : (string : List ℕ) (g : Segment) → heard Block string ≡ block g → (t : List ℕ) × (parityOff string 256 ≡ done t) × (readBlock t ≡ done g)
 unfolding heard
-heard-read stage [] g e = let z : _≡_ {A = ℕ} 0 1 = cc in absurd (omega arith)
-heard-read stage (b ∷ bs) g e = go (parityOff (b ∷ bs) 256) e
+heard-read [] g e = let z : _≡_ {A = ℕ} 0 1 = cc in absurd (omega arith)
+heard-read (b ∷ bs) g e = go (parityOff (b ∷ bs) 256) e
   where
-    go : (o : Outcome (List ℕ)) → heardText stage o ≡ block g → (t : List ℕ) × (o ≡ done t) × (readBlock t ≡ done g)
-    go (done t) e = (t, refl, recognized-read stage t g e)
+    go : (o : Outcome (List ℕ)) → heardText Block o ≡ block g → (t : List ℕ) × (o ≡ done t) × (readBlock t ≡ done g)
+    go (done t) e = (t, refl, recognized-read t g e)
     go (refused n) e = let z : _≡_ {A = ℕ} 0 1 = cc in absurd (omega arith)
 
+-- ── What is heard where it is a block ──
+
+-- what is said of a block, said of what was heard where that is one
+abbrev pub OfBlock : (Segment → Type 0) → {stage : Stage} → Heard stage → Type 0
+OfBlock Q silence = Unit {0}
+OfBlock Q noise = Unit {0}
+OfBlock Q hello = Unit {0}
+OfBlock Q helloAgain = Unit {0}
+OfBlock Q (logon text) = Unit {0}
+OfBlock Q bye = Unit {0}
+OfBlock Q (block g) = Q g
+OfBlock Q misfit = Unit {0}
+
 -- a block that is heard is right for its ending
-pub heard-right : (stage : Stage) (string : List ℕ) (g : Segment) → heard stage string ≡ block g → right (g .info) (g .ending) ≡ true
-heard-right stage string g e =
-    let (t, _, read) = heard-read stage string g e in
-    read-write t g read .2
+pub heard-right : (stage : Stage) (string : List ℕ) → OfBlock (λ g. right (g .info) (g .ending) ≡ true) (heard stage string)
+heard-right stage string = go stage (heard stage string) refl
+  where
+    go : (stage : Stage) (h : Heard stage) → heard stage string ≡ h → OfBlock (λ g. right (g .info) (g .ending) ≡ true) h
+    go stage silence e = tt
+    go stage noise e = tt
+    go Idle hello e = tt
+    go Logon helloAgain e = tt
+    go Logon (logon text) e = tt
+    go Block bye e = tt
+    go Block misfit e = tt
+    go Block (block g) e =
+        let (t, _, read) = heard-read string g e in
+        read-write t g read .2

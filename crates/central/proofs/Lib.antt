@@ -2,10 +2,9 @@ pub mod AnswerLaws
 pub mod CentralLaws
 pub mod HearingLaws
 pub mod KeepLaws
+pub mod OfferLaws
 pub mod RangeLaws
 pub mod ReactedLaws
 pub mod ReactionLaws
-pub mod SavedLaws
 pub mod StepLaws
-pub mod StoreLaws
 pub mod TextLaws

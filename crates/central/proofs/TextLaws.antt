@@ -7,22 +7,22 @@ use native.Mathlib.Omega.{arith}
 use borrow.Author.Tests.{leb-true}
 use lib.Dec.{leb}
 use lib.ListN.{length, take, drop}
-use Rattle.line.specs.Answer.{Outcome, done, refused, mapDone, output}
+use Rattle.line.specs.Answer.{Outcome, done, refused, mapDone}
 use Rattle.line.specs.Character.{CR, ESC, alphanumeric}
 use Rattle.line.specs.Parity.{parityOff}
 use Rattle.line.specs.Test.{all, same}
-use Rattle.block.specs.Block.{Segment, right, readBlock}
+use Rattle.block.specs.Block.{Segment, inside, right, readBlock}
 use Rattle.block.specs.declared.frame.Ending.{Ending}
-use Rattle.block.proofs.FrameLaws.{read-write}
-use Rattle.central.specs.Hearing.{silence, block, between, logsOn, heardBlock, heardText, heard}
+use Rattle.block.proofs.FrameLaws.{read-write, read-done}
+use Rattle.central.specs.Hearing.{silence, block, middle, logsOn, heardBlock, heardText, heard}
 use Rattle.central.specs.declared.state.Stage.{Stage}
 
 -- a logon has at least five characters
 pub logon-long : (t : List ℕ) → logsOn t ≡ true → 5 ≤ length t
 logon-long t e =
     let n = length t in
-    let (p, _) = and-eq-true-iff (leb 5 n && leb n 11 && same (take 1 t) (ESC ∷ []) && all alphanumeric (between t)) (same (drop (n - 1) t) (CR ∷ [])) .0 e in
-    let (q, _) = and-eq-true-iff (leb 5 n && leb n 11 && same (take 1 t) (ESC ∷ [])) (all alphanumeric (between t)) .0 p in
+    let (p, _) = and-eq-true-iff (leb 5 n && leb n 11 && same (take 1 t) (ESC ∷ []) && all alphanumeric (middle t)) (same (drop (n - 1) t) (CR ∷ [])) .0 e in
+    let (q, _) = and-eq-true-iff (leb 5 n && leb n 11 && same (take 1 t) (ESC ∷ [])) (all alphanumeric (middle t)) .0 p in
     let (r, _) = and-eq-true-iff (leb 5 n && leb n 11) (same (take 1 t) (ESC ∷ [])) .0 q in
     leb-true 5 n (and-eq-true-iff (leb 5 n) (leb n 11) .0 r .0)
 
@@ -38,25 +38,14 @@ unfolding heard
 heard-text stage [] h = absurd (h refl)
 heard-text stage (b ∷ bs) h = refl
 
--- the information of a block
-abbrev pub informationOf : Outcome Segment → List ℕ
-informationOf o = output (mapDone (λ g. g .info) o)
-
 -- a block that is read: its information is right, and it is heard with its ending
 pub block-heard : (t : List ℕ) (e : Ending) → done e ≡ mapDone (λ g. g .ending) (readBlock t) →
-    (right (informationOf (readBlock t)) e ≡ true) × (heardBlock (readBlock t) ≡ block (record { info = informationOf (readBlock t); ending = e }))
+    (right (inside t) e ≡ true) × (heardBlock (readBlock t) ≡ block (record { info = inside t; ending = e }))
 block-heard t e = go (readBlock t) refl
   where
-    go : (o : Outcome Segment) → readBlock t ≡ o → done e ≡ mapDone (λ g. g .ending) o → (right (informationOf o) e ≡ true) × (heardBlock o ≡ block (record { info = informationOf o; ending = e }))
+    go : (o : Outcome Segment) → readBlock t ≡ o → done e ≡ mapDone (λ g. g .ending) o → (right (inside t) e ≡ true) × (heardBlock o ≡ block (record { info = inside t; ending = e }))
     go (done g) r h =
         let same : e ≡ g .ending = cc in
-        (rw same (read-write t g r .2), rw same)
+        let info = read-done t g r .information in
+        (rw (same, info) (read-write t g r .2), rw (same, info))
     go (refused n) r h = absurd (false≢true cc)
-
--- a block that is not read
-pub block-refused : (t : List ℕ) (n : ℕ) → refused n ≡ mapDone (λ g. g .ending) (readBlock t) → readBlock t ≡ refused n
-block-refused t n = go (readBlock t)
-  where
-    go : (o : Outcome Segment) → refused n ≡ mapDone (λ g. g .ending) o → o ≡ refused n
-    go (done g) h = cc
-    go (refused m) h = cc

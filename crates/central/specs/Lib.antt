@@ -1,4 +1,5 @@
 pub mod Hearing
 pub mod Reaction
+pub mod Offer
 pub mod Step
 pub mod Inner

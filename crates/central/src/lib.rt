@@ -5,7 +5,6 @@ pub mod range;
 mod reaction;
 pub mod state;
 pub mod step;
-mod text;
 
 pub use state::Settings;
 pub use state::Stage;

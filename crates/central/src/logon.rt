@@ -1,10 +1,10 @@
 // A logon: what the caller sends to say who calls.
-use crate::text::is_same;
 use line::Password;
 use line::character::CR;
 use line::character::Class;
 use line::character::ESC;
 use line::character::are;
+use line::memory::is_same;
 ghost use mathlib.Core.List.{_++_};
 ghost use mathlib.Core.Path.{_≡_};
 ghost use Prim.Native.Nat.{_≤_};
@@ -14,19 +14,19 @@ ghost use Rattle.line.specs.Text.{bytesOf};
 ghost use Rattle.central.specs.Hearing.{logsOn};
 
 // The fewest and the most characters of a logon: ESC, 3 to 9 letters or digits, CR.
-pub const SHORTEST: usize = 5;
+pub const FEWEST: usize = 5;
 
-pub const LONGEST: usize = 11;
+pub const MOST: usize = 11;
 
 // The text is ESC, 3 to 9 letters or digits, CR.
 pub(crate) fn logs_on(text: &[u8]) -> bool
     ensures { λ r. ⌜ r ≡ logsOn (now (text .entry)) ⌝ }
 {
     let n = text.len();
-    if n < SHORTEST {
+    if n < FEWEST {
         return false;
     }
-    if LONGEST < n {
+    if MOST < n {
         return false;
     }
     if text[0] != ESC {

@@ -37,3 +37,11 @@ pub struct Stepped {
     pub outcome: Written,
     pub state: State,
 }
+
+// A state without the unfinished information itself: that stays where it lies.
+pub struct Control {
+    pub stage: Stage,
+    pub failures: usize,
+    pub length: usize,
+    pub journal: usize,
+}

@@ -1,5 +1,5 @@
 -- The device does what the model's device does: it stands at the same block of the same transaction, its verdicts are the model's, and so is each move.
-use mathlib.Core.Bool.{true, _&&_, _||_}
+use mathlib.Core.Bool.{true}
 use mathlib.Core.List.{List, [], _∷_, _++_}
 use mathlib.Core.Path.{_≡_, refl, sym, _∙_}
 use Prim.Native.Nat.{ℕ, suc, _+_, _≤_, _<_}
@@ -9,27 +9,25 @@ use borrow.Author.Tests.{lt-ltb, le-ltb, eq-eqb, ne-eqb}
 use lib.Dec.{ltb, leb, leb·suc-suc}
 use lib.ListN.{length, getD, set, replicate, length-append}
 use lib.Seq.{append-snoc, getD-at, set-at}
+use Rattle.line.specs.Test.{if_then_else_}
 use Rattle.line.specs.Transaction.{legal}
-use Rattle.block.proofs.SegmentationLaws.{segmentation-count}
 use Rattle.block.specs.Block.{Segment, right}
-use Rattle.block.specs.Segmentation.{segment, blockCount, segmentation, segmentAt}
+use Rattle.block.specs.Segments.{segment}
 use Rattle.block.specs.declared.frame.Ending.the-variants.{Etx}
+use Rattle.journal.proofs.RecordLaws.{legal-at}
 use Rattle.journal.specs.Encoding.{allLegal}
 use Rattle.reply.specs.declared.Meaning.the-variants.{IdRequest, Acceptance, Ack, Nak, Rs, Eot}
 use Rattle.reply.specs.declared.Reply.{Reply}
 use Rattle.reply.specs.declared.Reply.the-variants.{Recognized, Unrecognized}
 use Rattle.central.specs.Reaction.{Answer, nothing, idRequest, acceptance, ack, nak, rs, hangUp}
-use Rattle.device.proofs.JobLaws.{blocks-some}
-use Rattle.journal.proofs.RecordLaws.{legal-at}
-use Rattle.block.proofs.SegmentLaws.{segment-right}
-use Rattle.device.specs.Reaction.{Move, moves, onwards, place, _says_}
+use Rattle.device.proofs.SegmentsLaws.{segments-some, segments-right}
+use Rattle.device.specs.Reaction.{Move, goes, segmentsOf, moves, onwards, place}
 use Rattle.device.specs.Step.{exists}
 use Rattle.device.specs.declared.state.Step.{Step}
 use Rattle.device.specs.declared.state.Step.the-variants.{Opening, Logon, Sending, Closing, Stopped}
 use Rattle.device.specs.declared.state.Verdict.{Verdict}
 use Rattle.device.specs.declared.state.Verdict.the-variants.{Accepted, Rejected, Unconfirmed, Deferred, Unsent}
 use Rattle.demand.specs.Run.{Inputs, noted}
-use Rattle.demand.proofs.Messages.{_is_}
 use Rattle.demand.proofs.Instance.{model, limits, parts}
 use Rattle.demand.proofs.Model.{opening, loggingOn, closing, sending, stopped, Device, device, begin, acked, reads}
 use Rattle.demand.proofs.Tests.{branches}
@@ -46,16 +44,6 @@ readAs nak = Recognized Nak
 readAs rs = Recognized Rs
 readAs hangUp = Recognized Eot
 
--- the tests that the device makes of an answer, outside sending
-tests : (x : Answer) → (readAs x says IdRequest ≡ x is idRequest) × (readAs x says Acceptance ≡ x is acceptance) × (readAs x says Nak ≡ x is nak)
-tests nothing = (refl, refl, refl)
-tests idRequest = (refl, refl, refl)
-tests acceptance = (refl, refl, refl)
-tests ack = (refl, refl, refl)
-tests nak = (refl, refl, refl)
-tests rs = (refl, refl, refl)
-tests hangUp = (refl, refl, refl)
-
 -- the test of the attempts
 tries : (a most : ℕ) → ltb a (most + 1) ≡ leb a most
 tries a most = rw (add-one, leb·suc-suc)
@@ -67,7 +55,7 @@ parts-are (g ∷ gs) h = refl
 
 -- ── The device ──
 
-module _ (i : Inputs) where
+module _ {J : Type 0} (i : Inputs J) where
   -- the model's device has `left` and `told`, the other stands at the transaction n and has the verdicts vs
   pub record Held (n : ℕ) (vs : List Verdict) (left : List (List ℕ)) (told : List Verdict) : Type 0 where
     pub done : List (List ℕ)
@@ -80,7 +68,7 @@ module _ (i : Inputs) where
   pub record CutAt (t : List ℕ) (k : ℕ) (b : Segment) (bs : List Segment) : Type 0 where
     pub before : List Segment
     pub before-is : length before ≡ k
-    pub blocks-are : segmentation t ≡ before ++ b ∷ bs
+    pub blocks-are : segmentsOf (i .device) t ≡ before ++ b ∷ bs
 
   -- a step and verdicts, and the model's device
   pub data Same : Step → List Verdict → Device → Type 0 where
@@ -126,11 +114,11 @@ module _ (i : Inputs) where
       }
 
   -- how many blocks the transaction has
-  cut-count : {k : ℕ} {t : List ℕ} {b : Segment} {bs : List Segment} → CutAt t k b bs → blockCount (length t) ≡ k + suc (length bs)
-  cut-count {t = t} {b = b} {bs = bs} x = sym (segmentation-count t) ∙ rw (x .blocks-are, length-append) (omega (arith, x .before-is))
+  cut-count : {k : ℕ} {t : List ℕ} {b : Segment} {bs : List Segment} → CutAt t k b bs → length (segmentsOf (i .device) t) ≡ k + suc (length bs)
+  cut-count {t = t} {b = b} {bs = bs} x = rw (x .blocks-are, length-append) (omega (arith, x .before-is))
 
   -- the block k of the transaction
-  cut-at : {k : ℕ} {t : List ℕ} {b : Segment} {bs : List Segment} → CutAt t k b bs → segmentAt t k ≡ b
+  cut-at : {k : ℕ} {t : List ℕ} {b : Segment} {bs : List Segment} → CutAt t k b bs → getD (segmentsOf (i .device) t) k (segment [] Etx) ≡ b
   cut-at {k} {t} {b} {bs} x = rw (x .blocks-are) (getD-at (x .before) b bs (segment [] Etx) k (x .before-is))
 
   -- the job is legal
@@ -145,8 +133,8 @@ module _ (i : Inputs) where
     begin-same {n} [] h = rw (le-ltb n (length (i .job)) (omega (arith, held-length h))) (same-closing (h .all-are))
     begin-same {n} (t ∷ ts) h =
         let there : n < length (i .job) = omega (arith, held-length h) in
-        let some : 1 ≤ length (segmentation t) = rw segmentation-count (rw (held-at h) at (blocks-some (i .job) n good there)) in
-        rw (lt-ltb n (length (i .job)) there) (same-sending h (record { before = []; before-is = refl; blocks-are = parts-are (segmentation t) some }))
+        rw (lt-ltb n (length (i .job)) there)
+        (same-sending h (record { before = []; before-is = refl; blocks-are = parts-are (segmentsOf (i .device) t) (segments-some (i .device) t (held-legal h)) }))
 
     -- a move, and the model's device
     abbrev pub SameMove : List Verdict → Move → Device → Type 0
@@ -154,20 +142,26 @@ module _ (i : Inputs) where
 
     -- the next block, or accepted
     acked-same : {n k : ℕ} (a : ℕ) {vs told : List Verdict} {t : List ℕ} {ts : List (List ℕ)} {b : Segment} (bs : List Segment) → Held n vs (t ∷ ts) told → CutAt t k b bs →
-        SameMove vs (moves (i .retries) (i .job) (Sending (place n k a)) (Recognized Ack)) (acked (model i) bs (t ∷ ts) told)
+        SameMove vs (moves (i .device) (i .job) (Sending (place n k a)) (Recognized Ack)) (acked (model i) bs (t ∷ ts) told)
     unfolding acked moves
     acked-same {n} {k} a {t = t} {ts = ts} [] h x =
-        rw (held-at h, eq-eqb (k + 1) (blockCount (length t)) (omega (arith, cut-count x))) (begin-same ts (held-next Accepted h))
+        rw (held-at h, eq-eqb (k + 1) (length (segmentsOf (i .device) t)) (omega (arith, cut-count x))) (begin-same ts (held-next Accepted h))
     acked-same {n} {k} a {t = t} (c ∷ bs) h x =
-        rw (held-at h, ne-eqb (k + 1) (blockCount (length t)) (omega (arith, cut-count x))) (same-sending h (cut-next x))
+        rw (held-at h, ne-eqb (k + 1) (length (segmentsOf (i .device) t)) (omega (arith, cut-count x))) (same-sending h (cut-next x))
 
-    -- the same string once more
-    again-opening : (a : ℕ) → Same (Opening (place 0 0 (a + 1))) (replicate (length (i .job)) Unsent) (device (opening (suc a)) (i .job) [])
-    again-opening a = rw add-one same-opening
+    -- the first string once more, three times at most
+    opening-again : (a : ℕ) →
+        let vs = replicate (length (i .job)) Unsent in
+        SameMove vs (if ltb a 3 then goes (Opening (place 0 0 (a + 1))) else goes Stopped)
+        (if ltb a 3 then device (opening (suc a)) (i .job) [] else device stopped (i .job) [])
+    opening-again a = branches (SameMove (replicate (length (i .job)) Unsent)) (ltb a 3) (rw add-one same-opening) (same-stopped refl)
 
-    -- the logon once more
-    again-logon : (a : ℕ) → Same (Logon (place 0 0 (a + 1))) (replicate (length (i .job)) Unsent) (device (loggingOn (suc a)) (i .job) [])
-    again-logon a = rw add-one same-logon
+    -- the logon once more, D + 1 times at most
+    logon-again : (a : ℕ) →
+        let vs = replicate (length (i .job)) Unsent in
+        SameMove vs (if ltb a (i .device .retries + 1) then goes (Logon (place 0 0 (a + 1))) else goes Stopped)
+        (if leb a (i .device .retries) then device (loggingOn (suc a)) (i .job) [] else device stopped (i .job) [])
+    logon-again a = rw (tries a (i .device .retries)) (branches (SameMove (replicate (length (i .job)) Unsent)) (leb a (i .device .retries)) (rw add-one same-logon) (same-stopped refl))
 
     -- the close once more
     again-closing : (a : ℕ) {vs told : List Verdict} {left : List (List ℕ)} → vs ≡ told ++ replicate (length left) Unsent →
@@ -181,44 +175,54 @@ module _ (i : Inputs) where
 
     -- an answer moves both alike
     pub moves-same : (x : Answer) {step : Step} {vs : List Verdict} {d : Device} → Same step vs d →
-        SameMove vs (moves (i .retries) (i .job) step (readAs x)) (reads (model i) (limits i) x d)
+        SameMove vs (moves (i .device) (i .job) step (readAs x)) (reads (model i) (limits i) x d)
     unfolding moves reads
-    moves-same x (same-opening {a}) =
-        let vs = replicate (length (i .job)) Unsent in
-        rw (tests x .0)
-        (branches (SameMove vs) (x is idRequest) same-logon (branches (SameMove vs) (ltb a 3) (again-opening a) (same-stopped refl)))
-    moves-same x (same-logon {a}) =
-        let vs = replicate (length (i .job)) Unsent in
-        rw (tests x .1, tests x .2, tests x .0, tries a (i .retries))
-        (branches (SameMove vs) (x is acceptance) (begin-same (i .job) held-start)
-        (branches (SameMove vs) ((x is nak || x is idRequest) && leb a (i .retries)) (again-logon a) (same-stopped refl)))
+    moves-same nothing (same-opening {a}) = opening-again a
+    moves-same idRequest same-opening = same-logon
+    moves-same acceptance (same-opening {a}) = opening-again a
+    moves-same ack (same-opening {a}) = opening-again a
+    moves-same nak (same-opening {a}) = opening-again a
+    moves-same rs (same-opening {a}) = opening-again a
+    moves-same hangUp (same-opening {a}) = opening-again a
+    moves-same nothing same-logon = same-stopped refl
+    moves-same idRequest (same-logon {a}) = logon-again a
+    moves-same acceptance same-logon = begin-same (i .job) held-start
+    moves-same ack same-logon = same-stopped refl
+    moves-same nak (same-logon {a}) = logon-again a
+    moves-same rs same-logon = same-stopped refl
+    moves-same hangUp same-logon = same-stopped refl
     moves-same ack (same-sending {a} {bs} h x) = acked-same a bs h x
     moves-same rs (same-sending {ts} h x) = begin-same ts (held-next Rejected h)
     moves-same nak (same-sending {a} {vs} h x) =
-        rw (tries a (i .retries)) (branches (SameMove vs) (leb a (i .retries)) (again-sending a h x) (same-stopped (held-next Deferred h .all-are)))
+        rw (tries a (i .device .retries)) (branches (SameMove vs) (leb a (i .device .retries)) (again-sending a h x) (same-stopped (held-next Deferred h .all-are)))
     moves-same hangUp (same-sending h x) = same-stopped (held-next Deferred h .all-are)
     moves-same nothing (same-sending h x) = same-stopped (held-next Unconfirmed h .all-are)
     moves-same idRequest (same-sending h x) = same-stopped (held-next Unconfirmed h .all-are)
     moves-same acceptance (same-sending h x) = same-stopped (held-next Unconfirmed h .all-are)
-    moves-same x (same-closing {a} {vs} e) =
-        rw (tests x .2, tries a (i .retries))
-        (branches (SameMove vs) (x is nak && leb a (i .retries)) (again-closing a e) (same-stopped e))
+    moves-same nothing (same-closing e) = same-stopped e
+    moves-same idRequest (same-closing e) = same-stopped e
+    moves-same acceptance (same-closing e) = same-stopped e
+    moves-same ack (same-closing e) = same-stopped e
+    moves-same nak (same-closing {a} {vs} e) =
+        rw (tries a (i .device .retries)) (branches (SameMove vs) (leb a (i .device .retries)) (again-closing a e) (same-stopped e))
+    moves-same rs (same-closing e) = same-stopped e
+    moves-same hangUp (same-closing e) = same-stopped e
     moves-same x (same-stopped e) = same-stopped e
 
     -- ── What is sent ──
 
     -- the place exists in the job
-    pub same-exists : {step : Step} {vs : List Verdict} {d : Device} → Same step vs d → exists (i .job) step ≡ true
+    pub same-exists : {step : Step} {vs : List Verdict} {d : Device} → Same step vs d → exists (i .device) (i .job) step ≡ true
     same-exists same-opening = refl
     same-exists same-logon = refl
     same-exists (same-sending {n} {k} {t = t} h x) =
-        rw (held-at h, lt-ltb n (length (i .job)) (omega (arith, held-length h)), lt-ltb k (blockCount (length t)) (omega (arith, cut-count x)))
+        rw (held-at h, lt-ltb n (length (i .job)) (omega (arith, held-length h)), lt-ltb k (length (segmentsOf (i .device) t)) (omega (arith, cut-count x)))
     same-exists (same-closing e) = refl
     same-exists (same-stopped e) = refl
 
     -- the block of a sending step: the model's, and right
     pub same-block : {n k : ℕ} {vs told : List Verdict} {t : List ℕ} {ts : List (List ℕ)} {b : Segment} {bs : List Segment} → Held n vs (t ∷ ts) told → CutAt t k b bs →
-        (segmentAt (getD (i .job) n []) k ≡ b) × (length (b .info) ≤ 250) × (right (b .info) (b .ending) ≡ true)
+        (getD (segmentsOf (i .device) (getD (i .job) n [])) k (segment [] Etx) ≡ b) × (length (b .info) ≤ 250) × (right (b .info) (b .ending) ≡ true)
     same-block {n} {k} {t = t} h x =
-        let (short, good) = rw (cut-at x) at (segment-right t k (held-legal h) (omega (arith, cut-count x))) in
+        let (short, good) = rw (cut-at x) at (segments-right (i .device) t (held-legal h) k (omega (arith, cut-count x))) in
         (rw (held-at h) (cut-at x), short, good)

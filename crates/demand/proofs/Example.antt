@@ -9,15 +9,16 @@ use Rattle.line.specs.Test.{all, same}
 use Rattle.line.specs.Text.{bytesOf}
 use Rattle.line.specs.Transaction.{endsInCR}
 use Rattle.block.specs.Block.{blockOf, agrees, framed, summing, readBlock}
-use Rattle.block.specs.Checksum.{sum, checkCharacters}
-use Rattle.block.specs.Segmentation.{segments}
+use Rattle.block.specs.Checksum.{valueSum, checkCharacters}
+use Rattle.segmentation.specs.Segmentation.{segmentation, segmentsBy}
 use Rattle.journal.specs.Encoding.{recordOf, recordsOf}
+use Rattle.journal.specs.Storage.{transactions}
 use Rattle.reply.specs.Reading.{restAfter, requests, accepts, codeRead, textRead, replyRead}
-use Rattle.admission.specs.Content.{numberFrom, firstField, fieldCount, listed, admits}
+use Rattle.admission.specs.Content.{numberFrom, firstField, fieldCount, listed, content, admits}
 use Rattle.central.specs.Hearing.{recognized, heard}
 use Rattle.central.specs.Reaction.{reacts}
 use Rattle.device.specs.Bound.{jobBlocks}
-use Rattle.device.specs.Reaction.{moves}
+use Rattle.device.specs.Reaction.{segmentsOf, moves}
 use Rattle.device.specs.declared.state.Verdict.the-variants.{Accepted, Rejected, Unconfirmed, Deferred, Unsent}
 use Rattle.demand.specs.Faults.{damagesFrom, faulted}
 use Rattle.demand.specs.Run.{Inputs, Outcome, responds, follows, exchange, after, run}
@@ -31,19 +32,18 @@ abbrev unlisted : List ℕ
 unlisted = bytesOf "9" ++ CR ∷ bytesOf "X" ++ CR ∷ []
 
 -- the job of both, into an empty journal
-abbrev inputs : Inputs
+abbrev inputs : Inputs (List (List ℕ))
 inputs =
     record {
       job = stored ∷ unlisted ∷ [];
-      password = bytesOf "A1";
-      retries = 0;
-      rules = record { password = bytesOf "A1"; longest = 2000; retries = 0; pagers = 123 ∷ [] };
+      device = record { password = record { characters = 0x41 ∷ 0x31 ∷ 0 ∷ 0 ∷ 0 ∷ 0 ∷ []; length = 2 }; retries = 0 };
+      rules = record { password = bytesOf "A1"; longest = 2000; retries = 0; pagers = 123 ∷ []; storage = transactions };
       journal = [];
     }
 
 -- its run over a list of faults
-unfoldable faulty : List ℕ → Outcome
-unfolding after exchange responds follows damagesFrom heard recognized reacts moves jobBlocks replyRead textRead codeRead requests accepts restAfter same all parityOff ones blockOf agrees framed summing readBlock sum checkCharacters segments recordOf recordsOf numberFrom firstField fieldCount listed admits endsInCR
+unfoldable faulty : List ℕ → Outcome (List (List ℕ))
+unfolding after exchange responds follows damagesFrom heard recognized reacts moves jobBlocks replyRead textRead codeRead requests accepts restAfter same all parityOff ones blockOf agrees framed summing readBlock valueSum checkCharacters segmentsOf segmentation segmentsBy recordOf recordsOf numberFrom firstField fieldCount listed content admits endsInCR
 faulty faults = run inputs (faulted inputs faults)
 
 -- clean

@@ -15,14 +15,13 @@ use Rattle.line.proofs.OutcomeLaws.{choice}
 use Rattle.central.proofs.HearingLaws.{flipped-noise}
 use Rattle.central.specs.Reaction.{Answer, nothing, idRequest, acceptance, ack, nak, rs, hangUp, answerText}
 use Rattle.device.proofs.StringLaws.{string-seven}
-use Rattle.demand.specs.Demand.{Replaced, Unheard, NoReply, FairAt, FairFor, Fair}
+use Rattle.demand.specs.Demand.{Legal, Replaced, Unheard, NoReply, FairAt, FairFor, Fair}
 use Rattle.demand.specs.Faults.{garbled, damage, damages, damagesFrom, faulted}
 use Rattle.demand.specs.Run.{Damage, whole, other, hit, Inputs, Ends, start, string, answer, responds, exchange, after, mostTransmissions}
 use Rattle.demand.specs.Run as Run
 use Rattle.demand.proofs.CentralFollows.{both-idle}
-use Rattle.demand.proofs.Instance.{Legal}
 use Rattle.demand.proofs.DeviceFollows.{same-opening, same-exists}
-use Rattle.demand.proofs.Model.{World}
+use Rattle.demand.proofs.Model.{ModelEnds}
 use Rattle.demand.proofs.RunFollows.{SameEnds, ends, exchange-same}
 use Rattle.demand.proofs.RunLaws.{clean-fair}
 
@@ -41,7 +40,7 @@ hit-fault fault (b ∷ bs) = go (eqb fault 0) (eqb fault 1)
     go false false = refl
 
 -- the first of the faults makes the first exchange, and the others those behind it; past their end the fault is 0
-pub fault-step : (i : Inputs) (n : ℕ) (faults : List ℕ) (e : Ends) →
+pub fault-step : {J : Type 0} (i : Inputs J) (n : ℕ) (faults : List ℕ) (e : Ends J) →
     let e′ = exchange i (damages i (getD faults 0 0) e) e in
     after i (suc n) (damagesFrom i faults e) e ≡ after i n (damagesFrom i (tail faults) e′) e′
 unfolding after damagesFrom
@@ -78,12 +77,12 @@ answer-seven rs = refl
 answer-seven hangUp = refl
 
 -- along a run that is not refused
-module _ (i : Inputs) (l : Legal i) where
+module _ {J : Type 0} (i : Inputs J) (l : Legal i) where
   -- the damage of a fault is fair in one transmission
-  fault-fair : (fault : ℕ) (e : Ends) {w : World (List (List ℕ))} → SameEnds i l e w → FairAt i (damages i fault e) e
+  pub fault-fair : (fault : ℕ) (e : Ends J) {w : ModelEnds J} → SameEnds i l e w → FairAt i (damages i fault e) e
   fault-fair fault e (ends dev both) =
       let d = damage (fault / 3) (string i e) in
-      let narrow = string-seven (i .job) (i .password) (e .step) (l .job) (same-exists i (l .job) dev) (l .plain) in
+      let narrow = string-seven (i .device) (i .job) (l .password) (l .job) (e .step) (same-exists i (l .job) dev) in
       let x = responds i d e .answer in
       record {
         unheard = fault-replaced (Unheard (e .central .stage)) (fault / 3) (string i e)
@@ -93,7 +92,7 @@ module _ (i : Inputs) (l : Legal i) where
       }
 
   -- and in so many
-  from-fair : (n : ℕ) (faults : List ℕ) (e : Ends) {w : World (List (List ℕ))} → SameEnds i l e w → FairFor i n (damagesFrom i faults e) e
+  from-fair : (n : ℕ) (faults : List ℕ) (e : Ends J) {w : ModelEnds J} → SameEnds i l e w → FairFor i n (damagesFrom i faults e) e
   unfolding FairFor damagesFrom
   from-fair zero faults e alike = tt
   from-fair (suc n) [] e alike = clean-fair i (suc n) e

@@ -14,9 +14,10 @@ use Rattle.central.specs.Reaction.{Answer, nothing, idRequest, acceptance, ack,
 use Rattle.device.specs.declared.state.Verdict.{Verdict}
 use Rattle.device.specs.declared.state.Verdict.the-variants.{Accepted, Rejected, Unconfirmed, Deferred}
 use Rattle.demand.specs.Demand.{decides}
-use Rattle.demand.proofs.Messages.{last, Txn, Rules, Limits, hello, login, bye, blk, _is_, refused, Harm, whole, lost, garbled, Harms, harms, arrives, returns}
-use Rattle.demand.proofs.Model.{Step, idle, closed, logon, blocks, Reply, takes, failure, hears, opening, loggingOn, closing, sending, stopped, Device, device, begin, acked, reads, World, world, answered, sent, exchange, run, start, played, haltsAt}
-use Rattle.demand.proofs.CleanModel.{verdict, after, verdicts}
+use Rattle.demand.proofs.Messages.{last, Parameters, Limits, hello, login, bye, carries, _is_, refused, Effect, whole, lost, garbled, Effects, effects, arrives, returns}
+use Rattle.demand.proofs.Model.{CentralPhase, idle, closed, logon, blocks, Response, takes, failure, hears, opening, loggingOn, closing, sending, stopped, Device, device, begin, acked, reads, ModelEnds, modelEnds, answered, sent, exchange, run, start, played, haltsAt}
+use Rattle.demand.specs.Clean.{allJudged, judged, stored}
+use Rattle.demand.proofs.CleanModel.{judgedBy, storedBy, allJudgedBy}
 use Rattle.demand.proofs.Claim.{Laws, Pieces, final, piece, WellCut, cut-next}
 use Rattle.demand.proofs.Tests.{deviceOf}
 
@@ -39,11 +40,11 @@ not-true : (c : Bool) → (c ≡ true → ⊥) → c ≡ false
 not-true true h = absurd (h refl)
 not-true false h = refl
 
-module _ (R : Rules) where
-  open Rules R using (J, admits, fits, match)
+module _ (R : Parameters) where
+  open Parameters R using (J, admits, fits, match)
 
   -- a block of t that is refused, when the information so far is q: the journal does not admit t
-  refused-not : (j : J) (t q : Txn) (b : Segment) → (last b ≡ true → q ≡ t) → (admits j t ≡ true → fits q ≡ true) →
+  refused-not : (j : J) (t q : List ℕ) (b : Segment) → (last b ≡ true → q ≡ t) → (admits j t ≡ true → fits q ≡ true) →
       refused R j q b ≡ true → admits j t ≡ false
   refused-not j t q b w g x = go (why-refused (fits q) (last b) (admits j q) x)
     where
@@ -52,26 +53,26 @@ module _ (R : Rules) where
       go (inr (l, e)) = ap (admits j) (sym (w l)) ∙ e
 
   -- the verdicts of two jobs one after the other
-  pub verdicts-append : (j : J) (ts us : List Txn) → verdicts R j (ts ++ us) ≡ verdicts R j ts ++ verdicts R (foldl (after R) j ts) us
-  unfolding verdicts
+  pub verdicts-append : (j : J) (ts us : List (List ℕ)) → allJudgedBy R j (ts ++ us) ≡ allJudgedBy R j ts ++ allJudgedBy R (foldl (storedBy R) j ts) us
+  unfolding allJudged
   verdicts-append j [] us = refl
-  verdicts-append j (t ∷ ts) us = ap (_∷_ (verdict R j t)) (verdicts-append (after R j t) ts us)
+  verdicts-append j (t ∷ ts) us = ap (_∷_ (judgedBy R j t)) (verdicts-append (storedBy R j t) ts us)
 
   -- behind the first transaction a job is well cut
-  well-cut-tail : {t : Txn} {ts : List Txn} → WellCut R (t ∷ ts) → WellCut R ts
+  well-cut-tail : {t : List ℕ} {ts : List (List ℕ)} → WellCut R (t ∷ ts) → WellCut R ts
   well-cut-tail (cut-next p c) = c
 
   -- the first transaction is cut into its pieces
-  well-cut-head : {t : Txn} {ts : List Txn} → WellCut R (t ∷ ts) → Pieces t (R .cut t .first) (R .cut t .more)
+  well-cut-head : {t : List ℕ} {ts : List (List ℕ)} → WellCut R (t ∷ ts) → Pieces t (R .cut t .first) (R .cut t .more)
   well-cut-head (cut-next p c) = p
 
   -- a failure leaves the journal as it is
-  failure-keeps : (L : Limits) (at : ℕ → Step) (f : ℕ) (j : J) → failure R L at f j .journal ≡ j
+  failure-keeps : (L : Limits) (at : ℕ → CentralPhase) (f : ℕ) (j : J) → failure R L at f j .journal ≡ j
   unfolding failure
-  failure-keeps L at f j = choice (λ (r : Reply J). r .journal ≡ j) (ltb f (L .C)) (λ e. refl) (λ e. refl)
+  failure-keeps L at f j = choice (λ (r : Response J). r .journal ≡ j) (ltb f (L .C)) (λ e. refl) (λ e. refl)
 
   -- so does the close
-  bye-keeps : (L : Limits) (h : Harm) (s : Step) (j : J) → hears R L s j (arrives h bye) .journal ≡ j
+  bye-keeps : (L : Limits) (h : Effect) (s : CentralPhase) (j : J) → hears R L s j (arrives h bye) .journal ≡ j
   unfolding hears
   bye-keeps L lost s j = refl
   bye-keeps L whole idle j = refl
@@ -83,46 +84,46 @@ module _ (R : Rules) where
   bye-keeps L garbled (blocks f p) j = failure-keeps L (λ n. blocks n p) f j
   bye-keeps L garbled closed j = refl
 
-  module _ (j : J) (t : Txn) where
+  module _ (j : J) (t : List ℕ) where
     -- an admitted transaction is accepted
-    verdict-accepted : admits j t ≡ true → verdict R j t ≡ Accepted
-    unfolding verdict
+    verdict-accepted : admits j t ≡ true → judgedBy R j t ≡ Accepted
+    unfolding judged
     verdict-accepted e = rw e
 
     -- any other is rejected
-    verdict-rejected : admits j t ≡ false → verdict R j t ≡ Rejected
-    unfolding verdict
+    verdict-rejected : admits j t ≡ false → judgedBy R j t ≡ Rejected
+    unfolding judged
     verdict-rejected e = rw e
 
     -- an admitted transaction is put
-    after-accepted : admits j t ≡ true → after R j t ≡ R .put j t
-    unfolding after
+    after-accepted : admits j t ≡ true → storedBy R j t ≡ R .put j t
+    unfolding stored
     after-accepted e = rw e
 
     -- any other changes nothing
-    after-rejected : admits j t ≡ false → after R j t ≡ j
-    unfolding after
+    after-rejected : admits j t ≡ false → storedBy R j t ≡ j
+    unfolding stored
     after-rejected e = rw e
 
-  module _ (job : List Txn) (j₀ : J) where
+  module _ (job : List (List ℕ)) (j₀ : J) where
     -- the verdicts told and the journal j are those of the clean run, up to where `left` is left
-    pub record Reached (left : List Txn) (told : List Verdict) (j : J) : Type 0 where
-      pub done : List Txn
+    pub record Reached (left : List (List ℕ)) (told : List Verdict) (j : J) : Type 0 where
+      pub done : List (List ℕ)
       pub job-is : job ≡ done ++ left
-      pub told-is : told ≡ verdicts R j₀ done
-      pub journal-is : j ≡ foldl (after R) j₀ done
+      pub told-is : told ≡ allJudgedBy R j₀ done
+      pub journal-is : j ≡ foldl (storedBy R) j₀ done
       pub known : (done ≡ []) ⊎ (match ≡ true)
       pub well-cut : WellCut R left
 
     -- the start of the job is reached
     reached-start : WellCut R job → Reached job [] j₀
-    unfolding verdicts
+    unfolding allJudged
     reached-start c = record { done = []; job-is = refl; told-is = refl; journal-is = refl; known = inl refl; well-cut = c }
 
     -- one transaction further
-    reached-next : {t : Txn} {ts : List Txn} {told : List Verdict} {j : J} → match ≡ true → Reached (t ∷ ts) told j →
-        Reached ts (told ++ verdict R j t ∷ []) (after R j t)
-    unfolding verdicts
+    reached-next : {t : List ℕ} {ts : List (List ℕ)} {told : List Verdict} {j : J} → match ≡ true → Reached (t ∷ ts) told j →
+        Reached ts (told ++ judgedBy R j t ∷ []) (storedBy R j t)
+    unfolding allJudged
     reached-next {t} {ts} {told} {j} m r =
         record {
           done = r .done ++ t ∷ [];
@@ -135,63 +136,63 @@ module _ (R : Rules) where
 
     module _ (Calm : Type 0) where
       -- how a run may end: with nothing under way, or in a transaction that it leaves undecided
-      pub data Ended : List Txn → List Verdict → J → Type 0 where
-        quit : {left : List Txn} {told : List Verdict} {j : J} → Reached left told j → (Calm → match ≡ true → left ≡ []) → Ended left told j
-        broke : {t : Txn} {left : List Txn} {told : List Verdict} {v : Verdict} {j j′ : J} → match ≡ true → Reached (t ∷ left) told j →
-            decides v ≡ false → (j′ ≡ j) ⊎ ((j′ ≡ after R j t) × (v ≡ Unconfirmed)) → ¬ Calm → Ended left (told ++ v ∷ []) j′
+      pub data Ended : List (List ℕ) → List Verdict → J → Type 0 where
+        quit : {left : List (List ℕ)} {told : List Verdict} {j : J} → Reached left told j → (Calm → match ≡ true → left ≡ []) → Ended left told j
+        broke : {t : List ℕ} {left : List (List ℕ)} {told : List Verdict} {v : Verdict} {j j′ : J} → match ≡ true → Reached (t ∷ left) told j →
+            decides v ≡ false → (j′ ≡ j) ⊎ ((j′ ≡ storedBy R j t) × (v ≡ Unconfirmed)) → ¬ Calm → Ended left (told ++ v ∷ []) j′
 
       -- where the central may be while the device opens the call
-      data Waiting : Step → Type 0 where
+      data Waiting : CentralPhase → Type 0 where
         at-idle : Waiting idle
         at-logon : {f : ℕ} → Waiting (logon f)
         at-closed : ¬ Calm → Waiting closed
 
       -- the invariant: the device at a place, the central at the step that goes with it, and what is reached
-      data Good : World J → Type 0 where
-        is-opening : {a : ℕ} {s : Step} → Waiting s → Good (world (device (opening a) job []) s j₀)
-        is-logging-on : {a f : ℕ} → Good (world (device (loggingOn a) job []) (logon f) j₀)
-        is-sending : {a f : ℕ} {t u : Txn} {ts : List Txn} {told : List Verdict} {b : Segment} {bs : List Segment} {p : List ℕ} {j : J} →
+      data Good : ModelEnds J → Type 0 where
+        is-opening : {a : ℕ} {s : CentralPhase} → Waiting s → Good (modelEnds (device (opening a) job []) s j₀)
+        is-logging-on : {a f : ℕ} → Good (modelEnds (device (loggingOn a) job []) (logon f) j₀)
+        is-sending : {a f : ℕ} {t u : List ℕ} {ts : List (List ℕ)} {told : List Verdict} {b : Segment} {bs : List Segment} {p : List ℕ} {j : J} →
             match ≡ true → Reached (t ∷ ts) told j → Pieces u b bs → p ++ u ≡ t →
-            Good (world (device (sending b bs a) (t ∷ ts) told) (blocks f p) j)
-        is-closing : {a : ℕ} {told : List Verdict} {s : Step} {j : J} → Reached [] told j → Good (world (device (closing a) [] told) s j)
-        is-stopped : {left : List Txn} {told : List Verdict} {s : Step} {j : J} → Ended left told j → Good (world (device stopped left told) s j)
+            Good (modelEnds (device (sending b bs a) (t ∷ ts) told) (blocks f p) j)
+        is-closing : {a : ℕ} {told : List Verdict} {s : CentralPhase} {j : J} → Reached [] told j → Good (modelEnds (device (closing a) [] told) s j)
+        is-stopped : {left : List (List ℕ)} {told : List Verdict} {s : CentralPhase} {j : J} → Ended left told j → Good (modelEnds (device stopped left told) s j)
 
-      -- harm is allowed only where nothing calls for calm
-      abbrev Allowed : Harm → Type 0
+      -- faultEffect is allowed only where nothing calls for calm
+      abbrev Allowed : Effect → Type 0
       Allowed whole = Unit {0}
       Allowed lost = ¬ Calm
       Allowed garbled = ¬ Calm
 
-      -- without calm every harm is allowed
-      allowed : (h : Harm) → ¬ Calm → Allowed h
+      -- without calm every faultEffect is allowed
+      allowed : (h : Effect) → ¬ Calm → Allowed h
       allowed whole n = tt
       allowed lost n = n
       allowed garbled n = n
 
       -- damage is allowed only where nothing calls for calm
-      abbrev pub Undamaged : List Harms → Type 0
+      abbrev pub Undamaged : List Effects → Type 0
       Undamaged [] = Unit {0}
       Undamaged (m ∷ ms) = ¬ Calm
 
       -- without calm every list of damage is allowed
-      pub undamaged : (ms : List Harms) → ¬ Calm → Undamaged ms
+      pub undamaged : (ms : List Effects) → ¬ Calm → Undamaged ms
       undamaged [] n = tt
       undamaged (m ∷ ms) n = n
 
       -- the device goes on with the first transaction left
-      good-begin : {left : List Txn} {told : List Verdict} {j : J} {f : ℕ} → match ≡ true → Reached left told j →
-          Good (world (begin R left told) (blocks f []) j)
+      good-begin : {left : List (List ℕ)} {told : List Verdict} {j : J} {f : ℕ} → match ≡ true → Reached left told j →
+          Good (modelEnds (begin R left told) (blocks f []) j)
       unfolding begin
       good-begin {left = []} m r = is-closing r
       good-begin {left = t ∷ ts} m r = is-sending m r (well-cut-head (r .well-cut)) refl
 
       module _ (laws : Laws R) (L : Limits) (start : Reached job [] j₀) where
-        -- the world after the device d got the reply r
-        abbrev Then : Harm → Device → Reply J → Type 0
+        -- the modelEnds after the device d got the reply r
+        abbrev Then : Effect → Device → Response J → Type 0
         Then k d r = Good (answered R L k d r)
 
         -- an answer that is not y is not read as y
-        not-read : (k : Harm) (x y : Answer) → x is y ≡ false → nothing is y ≡ false → returns k x is y ≡ false
+        not-read : (k : Effect) (x y : Answer) → x is y ≡ false → nothing is y ≡ false → returns k x is y ≡ false
         not-read whole x y e n = e
         not-read lost x y e n = n
         not-read garbled x y e n = n
@@ -199,23 +200,23 @@ module _ (R : Rules) where
         -- ── Opening ──
 
         -- an answer that is no ID request: the device opens once more, or stops
-        reopens : (k : Harm) (a : ℕ) (s : Step) (x : Answer) → x is idRequest ≡ false → ¬ Calm → Waiting s →
+        reopens : (k : Effect) (a : ℕ) (s : CentralPhase) (x : Answer) → x is idRequest ≡ false → ¬ Calm → Waiting s →
             Then k (device (opening a) job []) (record { step = s; journal = j₀; answer = x })
         unfolding answered reads
         reopens k a s x e n w =
-            let P : Device → Type 0 = λ d. Good (world d s j₀) in
+            let P : Device → Type 0 = λ d. Good (modelEnds d s j₀) in
             choice P (returns k x is idRequest) (λ e′. absurd (false≢true (sym (not-read k x idRequest e refl) ∙ e′)))
             (λ e′. choice P (ltb a 3) (λ e′. is-opening w) (λ e′. is-stopped (quit start (λ c. absurd (n c)))))
 
         -- an ID request
-        opened : (k : Harm) → Allowed k → (a f : ℕ) → Then k (device (opening a) job []) (record { step = logon f; journal = j₀; answer = idRequest })
+        opened : (k : Effect) → Allowed k → (a f : ℕ) → Then k (device (opening a) job []) (record { step = logon f; journal = j₀; answer = idRequest })
         unfolding answered reads
         opened whole n a f = is-logging-on
         opened lost n a f = reopens lost a (logon f) nothing refl n at-logon
         opened garbled n a f = reopens garbled a (logon f) nothing refl n at-logon
 
         -- the invariant is kept while the device opens
-        good-opening : (h k : Harm) → Allowed h → Allowed k → (a : ℕ) (s : Step) → Waiting s →
+        good-opening : (h k : Effect) → Allowed h → Allowed k → (a : ℕ) (s : CentralPhase) → Waiting s →
             Then k (device (opening a) job []) (hears R L s j₀ (arrives h hello))
         unfolding hears failure
         good-opening whole k n m a s at-idle = opened k m a 0
@@ -231,7 +232,7 @@ module _ (R : Rules) where
         -- ── Logging on ──
 
         -- the central hangs up, or does not answer
-        gives-up : (k : Harm) (a : ℕ) (s : Step) (hung : Bool) → (Calm → match ≡ true → job ≡ []) →
+        gives-up : (k : Effect) (a : ℕ) (s : CentralPhase) (hung : Bool) → (Calm → match ≡ true → job ≡ []) →
             Then k (device (loggingOn a) job []) (record { step = s; journal = j₀; answer = if hung then hangUp else nothing })
         unfolding answered reads
         gives-up whole a s true q = is-stopped (quit start q)
@@ -240,22 +241,22 @@ module _ (R : Rules) where
         gives-up garbled a s hung q = is-stopped (quit start q)
 
         -- NAK to a logon
-        tries-again : (k : Harm) (a f : ℕ) → (Calm → match ≡ true → job ≡ []) →
+        tries-again : (k : Effect) (a f : ℕ) → (Calm → match ≡ true → job ≡ []) →
             Then k (device (loggingOn a) job []) (record { step = logon f; journal = j₀; answer = nak })
         unfolding answered reads
         tries-again whole a f q =
-            choice (λ d. Good (world d (logon f) j₀)) (leb a (L .D)) (λ e. is-logging-on) (λ e. is-stopped (quit start q))
+            choice (λ d. Good (modelEnds d (logon f) j₀)) (leb a (L .D)) (λ e. is-logging-on) (λ e. is-stopped (quit start q))
         tries-again lost a f q = is-stopped (quit start q)
         tries-again garbled a f q = is-stopped (quit start q)
 
         -- a failure at the logon
-        logon-fails : (k : Harm) (a f : ℕ) → (Calm → match ≡ true → job ≡ []) → Then k (device (loggingOn a) job []) (failure R L logon f j₀)
+        logon-fails : (k : Effect) (a f : ℕ) → (Calm → match ≡ true → job ≡ []) → Then k (device (loggingOn a) job []) (failure R L logon f j₀)
         unfolding failure
         logon-fails k a f q =
             choice (Then k (device (loggingOn a) job [])) (ltb f (L .C)) (λ e. tries-again k a (suc f) q) (λ e. gives-up k a closed true q)
 
         -- an acceptance
-        logged-on : (k : Harm) → Allowed k → (a : ℕ) → match ≡ true →
+        logged-on : (k : Effect) → Allowed k → (a : ℕ) → match ≡ true →
             Then k (device (loggingOn a) job []) (record { step = blocks 0 []; journal = j₀; answer = acceptance })
         unfolding answered reads
         logged-on whole n a e = good-begin e start
@@ -263,7 +264,7 @@ module _ (R : Rules) where
         logged-on garbled n a e = is-stopped (quit start (λ c. absurd (n c)))
 
         -- the invariant is kept while the device logs on
-        good-logging-on : (h k : Harm) → Allowed h → Allowed k → (a f : ℕ) →
+        good-logging-on : (h k : Effect) → Allowed h → Allowed k → (a f : ℕ) →
             Then k (device (loggingOn a) job []) (hears R L (logon f) j₀ (arrives h login))
         unfolding hears
         good-logging-on whole k n m a f =
@@ -273,7 +274,7 @@ module _ (R : Rules) where
 
         -- ── Sending ──
 
-        module _ (match-is : match ≡ true) {t : Txn} {ts : List Txn} {told : List Verdict} {j : J} (r : Reached (t ∷ ts) told j) where
+        module _ (match-is : match ≡ true) {t : List ℕ} {ts : List (List ℕ)} {told : List Verdict} {j : J} (r : Reached (t ∷ ts) told j) where
           -- the transaction is accepted
           accepted-next : admits j t ≡ true → Reached ts (told ++ Accepted ∷ []) (R .put j t)
           accepted-next e = rw (verdict-accepted j t e, after-accepted j t e) at (reached-next match-is r)
@@ -283,12 +284,12 @@ module _ (R : Rules) where
           rejected-next e = rw (verdict-rejected j t e, after-rejected j t e) at (reached-next match-is r)
 
           -- the device stops in the transaction, and the journal is as it was
-          breaks : (v : Verdict) {s : Step} → decides v ≡ false → ¬ Calm → Good (world (device stopped ts (told ++ v ∷ [])) s j)
+          breaks : (v : Verdict) {s : CentralPhase} → decides v ≡ false → ¬ Calm → Good (modelEnds (device stopped ts (told ++ v ∷ [])) s j)
           breaks v e n = is-stopped (broke match-is r e (inl refl) n)
 
           -- an answer that does not arrive whole is not read: the device stops in the transaction
-          unless-lost : (k : Harm) (b : Segment) (bs : List Segment) (a : ℕ) (x : Reply J) → Allowed k →
-              (¬ Calm → Good (world (device stopped ts (told ++ Unconfirmed ∷ [])) (x .step) (x .journal))) →
+          unless-lost : (k : Effect) (b : Segment) (bs : List Segment) (a : ℕ) (x : Response J) → Allowed k →
+              (¬ Calm → Good (modelEnds (device stopped ts (told ++ Unconfirmed ∷ [])) (x .step) (x .journal))) →
               Then whole (device (sending b bs a) (t ∷ ts) told) x → Then k (device (sending b bs a) (t ∷ ts) told) x
           unfolding answered reads
           unless-lost whole b bs a x n u g = g
@@ -296,46 +297,46 @@ module _ (R : Rules) where
           unless-lost garbled b bs a x n u g = u n
 
           -- ACK to the last block
-          accepts : (k : Harm) → Allowed k → (b : Segment) (a : ℕ) → admits j t ≡ true →
+          accepts : (k : Effect) → Allowed k → (b : Segment) (a : ℕ) → admits j t ≡ true →
               Then k (device (sending b [] a) (t ∷ ts) told) (record { step = blocks 0 []; journal = R .put j t; answer = ack })
           unfolding answered reads acked
           accepts k n b a e =
               unless-lost k b [] a _ n (λ m. is-stopped (broke match-is r refl (inr (sym (after-accepted j t e), refl)) m)) (good-begin match-is (accepted-next e))
 
           -- RS
-          rejects : (k : Harm) → Allowed k → (b : Segment) (bs : List Segment) (a : ℕ) → admits j t ≡ false →
+          rejects : (k : Effect) → Allowed k → (b : Segment) (bs : List Segment) (a : ℕ) → admits j t ≡ false →
               Then k (device (sending b bs a) (t ∷ ts) told) (record { step = blocks 0 []; journal = j; answer = rs })
           unfolding answered reads
           rejects k n b bs a e = unless-lost k b bs a _ n (breaks Unconfirmed refl) (good-begin match-is (rejected-next e))
 
           -- ACK to a block that is not the last
-          goes-on : (k : Harm) → Allowed k → {u : Txn} (b c : Segment) (bs : List Segment) (a : ℕ) (p : List ℕ) → Pieces u c bs → p ++ u ≡ t →
+          goes-on : (k : Effect) → Allowed k → {u : List ℕ} (b c : Segment) (bs : List Segment) (a : ℕ) (p : List ℕ) → Pieces u c bs → p ++ u ≡ t →
               Then k (device (sending b (c ∷ bs) a) (t ∷ ts) told) (record { step = blocks 0 p; journal = j; answer = ack })
           unfolding answered reads acked
           goes-on k n b c bs a p x e = unless-lost k b (c ∷ bs) a _ n (breaks Unconfirmed refl) (is-sending match-is r x e)
 
           -- no answer
-          hears-nothing : (k : Harm) → ¬ Calm → (b : Segment) (bs : List Segment) (a : ℕ) (s : Step) →
+          hears-nothing : (k : Effect) → ¬ Calm → (b : Segment) (bs : List Segment) (a : ℕ) (s : CentralPhase) →
               Then k (device (sending b bs a) (t ∷ ts) told) (record { step = s; journal = j; answer = nothing })
           unfolding answered reads
           hears-nothing k n b bs a s = unless-lost k b bs a _ (allowed k n) (breaks Unconfirmed refl) (breaks Unconfirmed refl n)
 
           -- the central hangs up
-          hears-hangup : (k : Harm) → ¬ Calm → (b : Segment) (bs : List Segment) (a : ℕ) (s : Step) →
+          hears-hangup : (k : Effect) → ¬ Calm → (b : Segment) (bs : List Segment) (a : ℕ) (s : CentralPhase) →
               Then k (device (sending b bs a) (t ∷ ts) told) (record { step = s; journal = j; answer = hangUp })
           unfolding answered reads
           hears-hangup k n b bs a s = unless-lost k b bs a _ (allowed k n) (breaks Unconfirmed refl) (breaks Deferred refl n)
 
           -- NAK: the central took nothing, so the block may be sent again
-          hears-nak : (k : Harm) → ¬ Calm → {u : Txn} (b : Segment) (bs : List Segment) (a f : ℕ) (p : List ℕ) → Pieces u b bs → p ++ u ≡ t →
+          hears-nak : (k : Effect) → ¬ Calm → {u : List ℕ} (b : Segment) (bs : List Segment) (a f : ℕ) (p : List ℕ) → Pieces u b bs → p ++ u ≡ t →
               Then k (device (sending b bs a) (t ∷ ts) told) (record { step = blocks f p; journal = j; answer = nak })
           unfolding answered reads
           hears-nak k n b bs a f p x e =
               unless-lost k b bs a _ (allowed k n) (breaks Unconfirmed refl)
-              (choice (λ d. Good (world d (blocks f p) j)) (leb a (L .D)) (λ e′. is-sending match-is r x e) (λ e′. breaks Deferred refl n))
+              (choice (λ d. Good (modelEnds d (blocks f p) j)) (leb a (L .D)) (λ e′. is-sending match-is r x e) (λ e′. breaks Deferred refl n))
 
           -- a block that arrives whole
-          block-taken : (k : Harm) → Allowed k → {u : Txn} (b : Segment) (bs : List Segment) (a : ℕ) (p : List ℕ) → Pieces u b bs → p ++ u ≡ t →
+          block-taken : (k : Effect) → Allowed k → {u : List ℕ} (b : Segment) (bs : List Segment) (a : ℕ) (p : List ℕ) → Pieces u b bs → p ++ u ≡ t →
               Then k (device (sending b bs a) (t ∷ ts) told) (takes R j (p ++ b .info) b)
           unfolding takes
           block-taken k n b bs a p (final l) e =
@@ -351,8 +352,8 @@ module _ (R : Rules) where
               (λ y. choice P (last b) (λ z. absurd (false≢true (sym l ∙ z))) (λ z. goes-on k n b c bs′ a (p ++ b .info) x (append-assoc p (b .info) u ∙ e)))
 
           -- the invariant is kept while the device sends
-          good-sending : (h k : Harm) → Allowed h → Allowed k → {u : Txn} (b : Segment) (bs : List Segment) (a f : ℕ) (p : List ℕ) → Pieces u b bs → p ++ u ≡ t →
-              Then k (device (sending b bs a) (t ∷ ts) told) (hears R L (blocks f p) j (arrives h (blk b)))
+          good-sending : (h k : Effect) → Allowed h → Allowed k → {u : List ℕ} (b : Segment) (bs : List Segment) (a f : ℕ) (p : List ℕ) → Pieces u b bs → p ++ u ≡ t →
+              Then k (device (sending b bs a) (t ∷ ts) told) (hears R L (blocks f p) j (arrives h (carries b)))
           unfolding hears failure
           good-sending whole k n m b bs a f p x e = block-taken k m b bs a p x e
           good-sending lost k n m b bs a f p x e = hears-nothing k n b bs a (blocks f p)
@@ -363,19 +364,19 @@ module _ (R : Rules) where
         -- ── Closing ──
 
         -- the invariant is kept while the device closes
-        good-closing : (h k : Harm) (a : ℕ) (told : List Verdict) (s : Step) (j : J) → Reached [] told j →
+        good-closing : (h k : Effect) (a : ℕ) (told : List Verdict) (s : CentralPhase) (j : J) → Reached [] told j →
             Then k (device (closing a) [] told) (hears R L s j (arrives h bye))
         unfolding answered reads
         good-closing h k a told s j r =
             let x = hears R L s j (arrives h bye) in
             rw (bye-keeps L h s j)
-            (choice (λ (d : Device). Good (world d (x .step) j)) (returns k (x .answer) is nak && leb a (L .D))
+            (choice (λ (d : Device). Good (modelEnds d (x .step) j)) (returns k (x .answer) is nak && leb a (L .D))
             (λ e. is-closing r) (λ e. is-stopped (quit r (λ c e. refl))))
 
         -- ── Every place ──
 
         -- every transmission keeps the invariant
-        good-exchange : (h k : Harm) → Allowed h → Allowed k → {w : World J} → Good w → Good (exchange R L (harms h k) w)
+        good-exchange : (h k : Effect) → Allowed h → Allowed k → {w : ModelEnds J} → Good w → Good (exchange R L (effects h k) w)
         unfolding exchange sent
         good-exchange h k n m (is-opening {a = a} {s = s} w) = good-opening h k n m a s w
         good-exchange h k n m (is-logging-on {a = a} {f = f}) = good-logging-on h k n m a f
@@ -384,18 +385,18 @@ module _ (R : Rules) where
         good-exchange h k n m (is-stopped e) = is-stopped e
 
         -- so does every run
-        good-run : (n : ℕ) (ms : List Harms) → Undamaged ms → {w : World J} → Good w → Good (run R L n ms w)
+        good-run : (n : ℕ) (ms : List Effects) → Undamaged ms → {w : ModelEnds J} → Good w → Good (run R L n ms w)
         unfolding run
         good-run zero ms q g = g
         good-run (suc n) [] q g = good-run n [] q (good-exchange whole whole tt tt g)
-        good-run (suc n) (harms h k ∷ ms) q g = good-run n ms (undamaged ms q) (good-exchange h k (allowed h q) (allowed k q) g)
+        good-run (suc n) (effects h k ∷ ms) q g = good-run n ms (undamaged ms q) (good-exchange h k (allowed h q) (allowed k q) g)
 
-      -- a world in which a run has ended so
-      abbrev pub EndOf : World J → Type 0
-      EndOf (world (device p left told) s j) = Ended left told j
+      -- a modelEnds in which a run has ended so
+      abbrev pub EndOf : ModelEnds J → Type 0
+      EndOf (modelEnds (device p left told) s j) = Ended left told j
 
       -- where the device has stopped, the run has ended
-      good-end : {w : World J} → Good w → haltsAt (deviceOf w) ≡ true → EndOf w
+      good-end : {w : ModelEnds J} → Good w → haltsAt (deviceOf w) ≡ true → EndOf w
       good-end (is-opening w) e = absurd (false≢true e)
       good-end is-logging-on e = absurd (false≢true e)
       good-end (is-sending i r x q) e = absurd (false≢true e)
@@ -403,10 +404,10 @@ module _ (R : Rules) where
       good-end (is-stopped x) e = x
 
       -- it holds of every run
-      played-good : Laws R → (L : Limits) → WellCut R job → (n : ℕ) (ms : List Harms) → Undamaged ms → Good (played R L n job j₀ ms)
+      played-good : Laws R → (L : Limits) → WellCut R job → (n : ℕ) (ms : List Effects) → Undamaged ms → Good (played R L n job j₀ ms)
       unfolding played
       played-good laws L c n ms q = good-run laws L (reached-start c) n ms q (is-opening at-idle)
 
       -- what a run comes to once the device has stopped
-      pub played-end : Laws R → (L : Limits) → WellCut R job → (n : ℕ) (ms : List Harms) → Undamaged ms → haltsAt (deviceOf (played R L n job j₀ ms)) ≡ true → EndOf (played R L n job j₀ ms)
+      pub played-end : Laws R → (L : Limits) → WellCut R job → (n : ℕ) (ms : List Effects) → Undamaged ms → haltsAt (deviceOf (played R L n job j₀ ms)) ≡ true → EndOf (played R L n job j₀ ms)
       played-end laws L c n ms q = good-end (played-good laws L c n ms q)

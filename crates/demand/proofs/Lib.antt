@@ -7,12 +7,14 @@ mod HigherLimits
 mod Invariant
 mod Summary
 mod Safety
-pub mod Instance
+mod Instance
 pub mod RunLaws
 pub mod Stops
 mod CentralFollows
 mod DeviceFollows
 mod RunFollows
-pub mod Demand
+mod Lines
 pub mod FaultLaws
+mod SameFaults
+pub mod Demand
 mod Example

@@ -1,36 +1,32 @@
 -- The model's parameters, its messages, and what damage does to them. What a journal is, which transactions it admits and how a transaction is cut
--- into blocks are parameters (`Rules`); so are the limits (`Limits`).
+-- into blocks are parameters (`Parameters`); so are the limits (`Limits`).
 use mathlib.Core.Bool.{Bool, not, _&&_, _||_}
 use mathlib.Core.List.{List, [], _∷_}
 use lib.Dec.{eqb}
 use Prim.Native.Nat.{ℕ}
 use Rattle.block.specs.Block.{Segment}
-use Rattle.block.specs.Segmentation.{continues}
+use Rattle.block.specs.Segments.{continues}
 use Rattle.central.specs.Reaction.{Answer, nothing, idRequest, acceptance, ack, nak, rs, hangUp}
 use Rattle.device.specs.declared.state.Verdict.{Verdict}
 
 -- ── What is given ──
-
--- a transaction's information
-abbrev pub Txn : Type 0
-Txn = List ℕ
 
 -- the block ends its transaction
 abbrev pub last : Segment → Bool
 last b = not (continues (b .ending))
 
 -- a list of blocks that is not empty
-pub record Blks : Type 0 where
+pub record Blocks : Type 0 where
   pub first : Segment
   pub more : List Segment
 
 -- a journal, which transactions it admits, how one is put into it, which fit at all, and how one is cut
-pub record Rules : Type 1 where
+pub record Parameters : Type 1 where
   pub J : Type 0
-  pub admits : J → Txn → Bool
-  pub put : J → Txn → J
-  pub fits : Txn → Bool
-  pub cut : Txn → Blks
+  pub admits : J → List ℕ → Bool
+  pub put : J → List ℕ → J
+  pub fits : List ℕ → Bool
+  pub cut : List ℕ → Blocks
   -- the passwords are equal
   pub match : Bool
 
@@ -42,9 +38,9 @@ pub record Limits : Type 0 where
 -- ── Messages ──
 
 -- what the device transmits, and what the central hears
-pub data Call : Type 0 where
-  silence noise hello login bye : Call
-  blk : Segment → Call
+pub data Message : Type 0 where
+  silence noise hello login bye : Message
+  carries : Segment → Message
 
 -- a number for each answer, to tell them apart
 abbrev number : Answer → ℕ
@@ -63,43 +59,43 @@ x is y = eqb (number x) (number y)
 
 -- ── The central's test of a block ──
 
-module _ (R : Rules) where
-  open Rules R using (J, admits, fits)
+module _ (R : Parameters) where
+  open Parameters R using (J, admits, fits)
 
   -- a block b with which the information of its transaction so far is t
-  abbrev pub refused : J → Txn → Segment → Bool
+  abbrev pub refused : J → List ℕ → Segment → Bool
   refused j t b = not (fits t) || (last b && not (admits j t))
 
 -- ── Damage ──
 
 -- a string arrives whole, or not at all, or so that nothing is recognized in it
-pub data Harm : Type 0 where
-  whole lost garbled : Harm
+pub data Effect : Type 0 where
+  whole lost garbled : Effect
 
 -- what happens to a string, and what to its answer
-pub data Harms : Type 0 where
-  harms : Harm → Harm → Harms
+pub data Effects : Type 0 where
+  effects : Effect → Effect → Effects
 
 -- what the central hears of a message
-abbrev pub arrives : Harm → Call → Call
+abbrev pub arrives : Effect → Message → Message
 arrives whole c = c
 arrives lost c = silence
 arrives garbled c = noise
 
 -- what the device reads of an answer
-abbrev pub returns : Harm → Answer → Answer
+abbrev pub returns : Effect → Answer → Answer
 returns whole x = x
 returns lost x = nothing
 returns garbled x = nothing
 
 -- past the end of the list all is whole
-abbrev pub next : List Harms → Harms
-next [] = harms whole whole
+abbrev pub next : List Effects → Effects
+next [] = effects whole whole
 next (d ∷ ds) = d
 
 -- ── What a run comes to ──
 
 -- the verdict of each transaction of the job, and the journal
-pub record Outcome (J : Type 0) : Type 0 where
+pub record Result (J : Type 0) : Type 0 where
   pub verdicts : List Verdict
   pub journal : J

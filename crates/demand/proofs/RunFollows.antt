@@ -1,15 +1,16 @@
 -- A run does what the model's run does, where its list of damage is fair: whole strings are heard and read as meant, and other bytes are noise.
-use mathlib.Core.Bool.{Bool, true, false, false≢true}
+use mathlib.Core.Bool.{Bool, true, false, false≢true, and-eq-true-iff}
 use mathlib.Core.List.{List, [], _∷_, map}
 use mathlib.Core.Logic.{inl, inr}
 use mathlib.Core.Option.{some}
 use mathlib.Core.Path.{_≡_, refl, sym, _∙_, ap}
 use Prim.Native.Nat.{ℕ, zero, suc, _≤_}
 use native.Mathlib.Omega.{arith}
-use lib.Dec.{eqb}
-use lib.ListN.{length}
+use borrow.Author.Tests.{leb-true}
+use lib.Dec.{eqb, leb}
+use lib.ListN.{length, length-take}
 use Rattle.line.specs.Answer.{Outcome, done, refused}
-use Rattle.line.specs.Character.{CR, EOT, seven}
+use Rattle.line.specs.Character.{CR, EOT, alphanumeric, seven}
 use Rattle.line.specs.Parity.{withParity, parityOff}
 use Rattle.line.specs.Test.{all, same}
 use Rattle.block.specs.Block.{Segment, readBlock}
@@ -25,62 +26,68 @@ use Rattle.central.specs.declared.state.Stage.{Stage}
 use Rattle.central.specs.declared.state.Stage.the-variants.{Idle, Logon, Block, Closed}
 use Rattle.device.proofs.StringLaws.{string-short, string-seven, string-some}
 use Rattle.device.specs.Reaction.{moves, stringText}
+use Rattle.device.specs.declared.state.Report.{Report}
 use Rattle.device.specs.declared.state.Step.{Step}
 use Rattle.device.specs.declared.state.Step.the-variants.{Stopped}
 use Rattle.device.specs.declared.state.Verdict.{Verdict}
-use Rattle.demand.specs.Demand.{Replaced, Unheard, NoReply, FairAt, FairFor}
-use Rattle.demand.specs.Run.{Damage, noted, hit, Damages, next, Inputs, Ends, answer, responds, follows, exchange, after}
+use Rattle.demand.specs.Demand.{Legal, Replaced, Unheard, NoReply, FairAt, FairFor}
+use Rattle.demand.specs.Run.{Damage, noted, reported, hit, Transit, Damages, next, Inputs, Ends, answer, responds, follows, exchange, after}
 use Rattle.demand.specs.Run as Run
-use Rattle.demand.proofs.CentralFollows.{Says, says-hello, says-login, says-block, says-bye, SameCentral, SameReply, hears-same, noise-same, silence-same}
+use Rattle.demand.proofs.CentralFollows.{password, Says, says-hello, says-login, says-block, says-bye, SameCentral, SameReply, hears-same, noise-same, silence-same}
 use Rattle.demand.proofs.DeviceFollows.{readAs, Same, same-opening, same-logon, same-sending, same-closing, same-stopped, moves-same, same-exists, same-block}
-use Rattle.demand.proofs.Messages.{Call, hello, login, bye, blk, Harm, whole, lost, garbled, Harms, harms, arrives, returns}
-use Rattle.demand.proofs.Instance.{Legal, model, limits}
-use Rattle.demand.proofs.Model.{hears, Device, World, world, answered, sent}
+use Rattle.demand.proofs.Messages.{Message, hello, login, bye, carries, Effect, whole, lost, garbled, Effects, effects, arrives, returns}
+use Rattle.demand.proofs.Instance.{model, limits}
+use Rattle.demand.proofs.Model.{CentralPhase, Response, hears, Device, ModelEnds, modelEnds, answered, sent}
 use Rattle.demand.proofs.Model as Model
 
 -- ── Damage ──
 
 -- what damage is to the model; no bytes at all are nothing
-abbrev pub harmed : Damage → Harm
-harmed Run.whole = whole
-harmed Run.nothing = lost
-harmed (Run.other []) = lost
-harmed (Run.other (b ∷ bs)) = garbled
+abbrev pub effectOf : Damage → Effect
+effectOf Run.whole = whole
+effectOf Run.nothing = lost
+effectOf (Run.other []) = lost
+effectOf (Run.other (b ∷ bs)) = garbled
 
 -- the damage to one transmission
-abbrev pub harmsOf : Damage × Damage → Harms
-harmsOf d = harms (harmed (d .0)) (harmed (d .1))
+abbrev pub effectsOf : Transit → Effects
+effectsOf d = effects (effectOf (d .out)) (effectOf (d .back))
 
 -- ── What is heard ──
 
 -- something was heard
-abbrev sounds : Heard → Bool
+abbrev sounds : {stage : Stage} → Heard stage → Bool
 sounds Hearing.silence = false
 sounds Hearing.noise = true
 sounds Hearing.hello = true
-sounds Hearing.bye = true
-sounds Hearing.misfit = true
+sounds Hearing.helloAgain = true
 sounds (Hearing.logon text) = true
+sounds Hearing.bye = true
 sounds (Hearing.block g) = true
+sounds Hearing.misfit = true
+
+-- the same as a fact
+abbrev Sounds : (stage : Stage) → Heard stage → Type 0
+Sounds stage h = sounds h ≡ true
 
 -- a text is not silence
-recognized-sounds : (stage : Stage) (t : List ℕ) → sounds (recognized stage t) ≡ true
+recognized-sounds : (stage : Stage) (t : List ℕ) → Sounds stage (recognized stage t)
 unfolding recognized
-recognized-sounds Idle t = choice (λ h. sounds h ≡ true) (same t (CR ∷ [])) (λ _. refl) (λ _. refl)
-recognized-sounds Logon t = choice (λ h. sounds h ≡ true) (same t (CR ∷ [])) (λ _. refl) (λ _. choice (λ h. sounds h ≡ true) (logsOn t) (λ _. refl) (λ _. refl))
-recognized-sounds Block t = choice (λ h. sounds h ≡ true) (same t (EOT ∷ CR ∷ [])) (λ _. refl) (λ _. go (readBlock t))
+recognized-sounds Idle t = choice (Sounds Idle) (same t (CR ∷ [])) (λ _. refl) (λ _. refl)
+recognized-sounds Logon t = choice (Sounds Logon) (same t (CR ∷ [])) (λ _. refl) (λ _. choice (Sounds Logon) (logsOn t) (λ _. refl) (λ _. refl))
+recognized-sounds Block t = choice (Sounds Block) (same t (EOT ∷ CR ∷ [])) (λ _. refl) (λ _. go (readBlock t))
   where
-    go : (o : Outcome Segment) → sounds (heardBlock o) ≡ true
+    go : (o : Outcome Segment) → Sounds Block (heardBlock o)
     go (done g) = refl
-    go (refused n) = choice (λ h. sounds h ≡ true) (eqb n 6) (λ _. refl) (λ _. refl)
+    go (refused n) = choice (Sounds Block) (eqb n 6) (λ _. refl) (λ _. refl)
 recognized-sounds Closed t = refl
 
 -- nor is a string that is not empty
-heard-sounds : (stage : Stage) (b : ℕ) (bs : List ℕ) → sounds (heard stage (b ∷ bs)) ≡ true
+heard-sounds : (stage : Stage) (b : ℕ) (bs : List ℕ) → Sounds stage (heard stage (b ∷ bs))
 unfolding heard
 heard-sounds stage b bs = go (parityOff (b ∷ bs) 256)
   where
-    go : (o : Outcome (List ℕ)) → sounds (heardText stage o) ≡ true
+    go : (o : Outcome (List ℕ)) → Sounds stage (heardText stage o)
     go (done t) = recognized-sounds stage t
     go (refused n) = refl
 
@@ -90,11 +97,11 @@ unheard-noise stage b bs (inl e) = e
 unheard-noise stage b bs (inr e) = absurd (false≢true (ap sounds (sym e) ∙ heard-sounds stage b bs))
 
 -- a string that the line carries
-module _ (i : Inputs) where
+module _ {J : Type 0} (i : Inputs J) where
   -- the central does with what arrives what the model's does
-  arrives-same : (t : List ℕ) → all seven t ≡ true → length t ≤ 256 → 1 ≤ length t → {x : Call} → Says i t x →
-      {c : Central} {s : Model.Step} {j : List (List ℕ)} → SameCentral i c s j → (d : Damage) → Replaced (Unheard (c .stage)) d (map withParity t) →
-      SameReply i (reacts (i .rules) c (c .stage) (heard (c .stage) (hit d (map withParity t)))) (hears (model i) (limits i) s j (arrives (harmed d) x))
+  pub arrives-same : (t : List ℕ) → all seven t ≡ true → length t ≤ 256 → 1 ≤ length t → {x : Message} → Says i t x →
+      {c : Central J} {s : CentralPhase} {j : J} → SameCentral i c s j → (d : Damage) → Replaced (Unheard (c .stage)) d (map withParity t) →
+      SameReply i (reacts (i .rules) c (c .stage) (heard (c .stage) (hit d (map withParity t)))) (hears (model i) (limits i) s j (arrives (effectOf d) x))
   arrives-same [] narrow short filled says both d fair = absurd (omega arith)
   arrives-same (b ∷ bs) narrow short filled says {c = c} both Run.whole fair = rw (sent-heard (c .stage) (b ∷ bs) narrow short filled) (hears-same i says both)
   arrives-same (b ∷ bs) narrow short filled says {c = c} both Run.nothing fair = rw (heard-empty (c .stage)) (silence-same i both)
@@ -129,7 +136,7 @@ other-unrecognized others [] fair = empty-unrecognized
 other-unrecognized others (b ∷ bs) fair = fair
 
 -- the device reads what arrives of an answer as the model does
-returns-same : (x : Answer) (d : Damage) → Replaced NoReply d (answerBytes x) → replyRead (hit d (answerBytes x)) ≡ readAs (returns (harmed d) x)
+returns-same : (x : Answer) (d : Damage) → Replaced NoReply d (answerBytes x) → replyRead (hit d (answerBytes x)) ≡ readAs (returns (effectOf d) x)
 returns-same x Run.whole fair = ap replyRead (hit-whole (answerBytes x)) ∙ answer-read x
 returns-same x Run.nothing fair = lost-unrecognized (answerBytes x)
 returns-same x (Run.other []) fair = other-unrecognized [] (answerBytes x) fair
@@ -137,65 +144,77 @@ returns-same x (Run.other (b ∷ bs)) fair = other-unrecognized (b ∷ bs) (answ
 
 -- ── A transmission ──
 
+-- the device's password, where a run is not refused
+module _ {J : Type 0} (i : Inputs J) (l : Legal i) where
+  -- it has at most six characters
+  pub short : length (password i) ≤ 6
+  short =
+      let n = i .device .password .length in
+      rw length-take (omega (arith, leb-true n 6 (and-eq-true-iff (leb n 6) (all alphanumeric (password i)) .0 (l .password) .0)))
+
+  -- letters and digits
+  pub plain : all alphanumeric (password i) ≡ true
+  plain = and-eq-true-iff (leb (i .device .password .length) 6) (all alphanumeric (password i)) .0 (l .password) .1
+
 -- a run that is not refused
-module _ (i : Inputs) (l : Legal i) where
+module _ {J : Type 0} (i : Inputs J) (l : Legal i) where
   -- both ends are the model's
-  pub data SameEnds : Ends → World (List (List ℕ)) → Type 0 where
-    ends : {e : Ends} {d : Device} {s : Model.Step} {j : List (List ℕ)} → Same i (e .step) (e .verdicts) d → SameCentral i (e .central) s j → SameEnds e (world d s j)
+  pub data SameEnds : Ends J → ModelEnds J → Type 0 where
+    ends : {e : Ends J} {d : Device} {s : CentralPhase} {j : J} → Same i (e .step) (e .verdicts) d → SameCentral i (e .central) s j → SameEnds e (modelEnds d s j)
 
   -- the central's answer to a string, and what the device does with it
-  answered-same : (d : Damage) (e : Ends) (n : ℕ) (x : Reaction) (r : Model.Reply (List (List ℕ))) {v : Device} → Same i (e .step) (e .verdicts) v →
+  answered-same : (d : Damage) (e : Ends J) (n : ℕ) (x : Reaction J) (r : Response J) {v : Device} → Same i (e .step) (e .verdicts) v →
       Replaced NoReply d (answerBytes (x .answer)) → SameReply i x r →
-      let m = moves (i .retries) (i .job) (e .step) (replyRead (hit d (answerBytes (x .answer)))) in
-      SameEnds (record { step = m .next; verdicts = noted (m .given) (e .verdicts); central = x .next; transmissions = n })
-      (answered (model i) (limits i) (harmed d) v r)
+      let m = moves (i .device) (i .job) (e .step) (replyRead (hit d (answerBytes (x .answer)))) in
+      SameEnds (record { step = m .next; verdicts = noted (m .given) (e .verdicts); report = reported (m .report) (e .report); central = x .next; transmissions = n })
+      (answered (model i) (limits i) (effectOf d) v r)
   unfolding answered
   answered-same d e n x r dev fair (now, alike) =
-      let read : replyRead (hit d (answerBytes (x .answer))) ≡ readAs (returns (harmed d) (r .answer)) =
-      returns-same (x .answer) d fair ∙ ap (λ y. readAs (returns (harmed d) y)) alike in
-      ends (rw (← read) at (moves-same i (l .job) (returns (harmed d) (r .answer)) dev)) now
+      let read : replyRead (hit d (answerBytes (x .answer))) ≡ readAs (returns (effectOf d) (r .answer)) =
+      returns-same (x .answer) d fair ∙ ap (λ y. readAs (returns (effectOf d) y)) alike in
+      ends (rw (← read) at (moves-same i (l .job) (returns (effectOf d) (r .answer)) dev)) now
 
   -- a string that says x
-  sent-same : (d : Damage × Damage) (e : Ends) (x : Call) {v : Device} {s : Model.Step} {j : List (List ℕ)} → (e .step ≡ Stopped → ⊥) →
-      Says i (stringText (i .job) (i .password) (e .step)) x → FairAt i d e → Same i (e .step) (e .verdicts) v → SameCentral i (e .central) s j →
-      SameEnds (exchange i d e) (sent (model i) (limits i) (harmsOf d) v s j (some x))
+  pub sent-same : (d : Transit) (e : Ends J) (x : Message) {v : Device} {s : CentralPhase} {j : J} → (e .step ≡ Stopped → ⊥) →
+      Says i (stringText (i .device) (i .job) (e .step)) x → FairAt i d e → Same i (e .step) (e .verdicts) v → SameCentral i (e .central) s j →
+      SameEnds (exchange i d e) (sent (model i) (limits i) (effectsOf d) v s j (some x))
   unfolding exchange responds follows sent
   sent-same d e x moving says fair dev both =
       let there = same-exists i (l .job) dev in
-      let narrow = string-seven (i .job) (i .password) (e .step) (l .job) there (l .plain) in
-      let fits = string-short (i .job) (i .password) (e .step) there (l .short) in
-      let filled = string-some (i .job) (i .password) (e .step) moving in
-      answered-same (d .1) e _ _ _ dev (fair .no-reply) (arrives-same i _ narrow fits filled says both (d .0) (fair .unheard))
+      let narrow = string-seven (i .device) (i .job) (l .password) (l .job) (e .step) there in
+      let fits = string-short (i .device) (i .job) (l .password) (l .job) (e .step) there in
+      let filled = string-some (i .device) (i .job) (e .step) moving in
+      answered-same (d .back) e _ _ _ dev (fair .no-reply) (arrives-same i _ narrow fits filled says both (d .out) (fair .unheard))
 
   -- a device that has stopped puts out no string: nothing moves
-  stopped-same : (d : Damage × Damage) (vs : List Verdict) (c : Central) (n : ℕ) {v : Device} {s : Model.Step} {j : List (List ℕ)} → Same i Stopped vs v → SameCentral i c s j →
-      SameEnds (exchange i d (record { step = Stopped; verdicts = vs; central = c; transmissions = n })) (world v s j)
+  stopped-same : (d : Transit) (vs : List Verdict) (shown : Report) (c : Central J) (n : ℕ) {v : Device} {s : CentralPhase} {j : J} → Same i Stopped vs v → SameCentral i c s j →
+      SameEnds (exchange i d (record { step = Stopped; verdicts = vs; report = shown; central = c; transmissions = n })) (modelEnds v s j)
   unfolding exchange responds follows heard reacts moves
-  stopped-same d vs c n dev both = ends dev both
+  stopped-same d vs shown c n dev both = ends dev both
 
   -- a step of the device, and what the model's device transmits
-  stepped-same : (d : Damage × Damage) {step : Step} {vs : List Verdict} (c : Central) (n : ℕ) {v : Device} {s : Model.Step} {j : List (List ℕ)} → Same i step vs v →
-      let e : Ends = record { step = step; verdicts = vs; central = c; transmissions = n } in
-      FairAt i d e → SameCentral i c s j → SameEnds (exchange i d e) (Model.exchange (model i) (limits i) (harmsOf d) (world v s j))
+  stepped-same : (d : Transit) {step : Step} {vs : List Verdict} (shown : Report) (c : Central J) (n : ℕ) {v : Device} {s : CentralPhase} {j : J} → Same i step vs v →
+      let e : Ends J = record { step = step; verdicts = vs; report = shown; central = c; transmissions = n } in
+      FairAt i d e → SameCentral i c s j → SameEnds (exchange i d e) (Model.exchange (model i) (limits i) (effectsOf d) (modelEnds v s j))
   unfolding Model.exchange sent
-  stepped-same d c n same-opening fair both = sent-same d _ hello (λ e. absurd (false≢true cc)) says-hello fair same-opening both
-  stepped-same d c n same-logon fair both = sent-same d _ login (λ e. absurd (false≢true cc)) (says-login (l .short) (l .plain)) fair same-logon both
-  stepped-same d c n (same-sending {b} h x) fair both =
+  stepped-same d shown c n same-opening fair both = sent-same d _ hello (λ e. absurd (false≢true cc)) says-hello fair same-opening both
+  stepped-same d shown c n same-logon fair both = sent-same d _ login (λ e. absurd (false≢true cc)) (says-login (short i l) (plain i l)) fair same-logon both
+  stepped-same d shown c n (same-sending {b} h x) fair both =
       let (block, fits, right) = same-block i (l .job) h x in
-      sent-same d _ (blk b) (λ e. absurd (false≢true cc)) (rw block (says-block b fits right)) fair (same-sending h x) both
-  stepped-same d c n (same-closing e) fair both = sent-same d _ bye (λ e. absurd (false≢true cc)) says-bye fair (same-closing e) both
-  stepped-same d c n (same-stopped {vs} e) fair both = stopped-same d vs c n (same-stopped e) both
+      sent-same d _ (carries b) (λ e. absurd (false≢true cc)) (rw block (says-block b fits right)) fair (same-sending h x) both
+  stepped-same d shown c n (same-closing e) fair both = sent-same d _ bye (λ e. absurd (false≢true cc)) says-bye fair (same-closing e) both
+  stepped-same d shown c n (same-stopped {vs} e) fair both = stopped-same d vs shown c n (same-stopped e) both
 
   -- one transmission
-  pub exchange-same : (d : Damage × Damage) {e : Ends} {w : World (List (List ℕ))} → FairAt i d e → SameEnds e w → SameEnds (exchange i d e) (Model.exchange (model i) (limits i) (harmsOf d) w)
-  exchange-same d {e} fair (ends dev both) = stepped-same d (e .central) (e .transmissions) dev fair both
+  pub exchange-same : (d : Transit) {e : Ends J} {w : ModelEnds J} → FairAt i d e → SameEnds e w → SameEnds (exchange i d e) (Model.exchange (model i) (limits i) (effectsOf d) w)
+  exchange-same d {e} fair (ends dev both) = stepped-same d (e .report) (e .central) (e .transmissions) dev fair both
 
   -- ── The run ──
 
   -- so many transmissions
-  pub after-same : (n : ℕ) (ds : Damages) {e : Ends} {w : World (List (List ℕ))} → FairFor i n ds e → SameEnds e w →
-      SameEnds (after i n ds e) (Model.run (model i) (limits i) n (map harmsOf ds) w)
+  pub after-same : (n : ℕ) (ds : Damages) {e : Ends J} {w : ModelEnds J} → FairFor i n ds e → SameEnds e w →
+      SameEnds (after i n ds e) (Model.run (model i) (limits i) n (map effectsOf ds) w)
   unfolding after FairFor Model.run
   after-same zero ds fair alike = alike
-  after-same (suc n) [] fair alike = after-same n [] (fair .1) (exchange-same (Run.whole, Run.whole) (fair .0) alike)
+  after-same (suc n) [] fair alike = after-same n [] (fair .1) (exchange-same (record { out = Run.whole; back = Run.whole }) (fair .0) alike)
   after-same (suc n) (d ∷ ds) fair alike = after-same n ds (fair .1) (exchange-same d (fair .0) alike)

@@ -10,76 +10,77 @@ use native.Mathlib.Omega.{arith}
 use Prim.Native.Nat.{ℕ, _<_, _≤_}
 use Rattle.device.specs.declared.state.Verdict.{Verdict}
 use Rattle.device.specs.declared.state.Verdict.the-variants.{Unsent}
-use Rattle.demand.proofs.Messages.{Txn, Rules, Limits, Harms}
-use Rattle.demand.proofs.Model.{device, World, world, played, haltsAt, outcome}
-use Rattle.demand.proofs.CleanModel.{verdicts, cleanVerdicts, cleanJournal}
-use Rattle.demand.proofs.Claim.{Laws, WellCut, Agrees}
+use Rattle.demand.proofs.Messages.{Parameters, Limits, Effects}
+use Rattle.demand.proofs.Model.{device, ModelEnds, modelEnds, played, haltsAt, outcome}
+use Rattle.demand.specs.Clean.{allJudged}
+use Rattle.demand.proofs.CleanModel.{allJudgedBy, verdictsBy, journalBy}
+use Rattle.demand.proofs.Claim.{Laws, WellCut, Safe}
 use Rattle.demand.specs.Demand.{decides, decided}
-use Rattle.demand.proofs.Tests.{deviceOf, decided-append, decided-unsent}
+use Rattle.demand.proofs.Tests.{deviceOf, decided-append, decided-unsent, undecided-open}
 use Rattle.demand.proofs.HigherLimits.{count, decides-more}
 use Rattle.demand.proofs.Invariant.{Ended, quit, broke, undamaged, EndOf, played-end}
-use Rattle.demand.proofs.Summary.{summary, clean-verdicts-are, clean-journal-is, unmatched-verdicts, unmatched-journal, agrees}
+use Rattle.demand.proofs.Summary.{summary, clean-verdicts-are, clean-journal-is, unmatched-verdicts, unmatched-journal, safe}
 
 -- a decided verdict of a run is the clean one
-decided-clean : (R : Rules) (job : List Txn) (j : R .J) {vs : List Verdict} {j′ : R .J} → Agrees R job j vs j′ → (i : ℕ) → i < decided vs →
-    getD vs i Unsent ≡ getD (cleanVerdicts R j job) i Unsent
+decided-clean : (R : Parameters) (job : List (List ℕ)) (j : R .J) {vs : List Verdict} {j′ : R .J} → Safe R job j vs j′ → (i : ℕ) → i < decided vs →
+    getD vs i Unsent ≡ getD (verdictsBy R j job) i Unsent
 decided-clean R job j {vs} a i h =
-    sym (getD-take (decided vs) vs i Unsent h) ∙ ap (λ (l : List Verdict). getD l i Unsent) (a .settled)
-    ∙ getD-take (decided vs) (cleanVerdicts R j job) i Unsent h
+    sym (getD-take (decided vs) vs i Unsent h) ∙ ap (λ (l : List Verdict). getD l i Unsent) (a .agrees .first-clean)
+    ∙ getD-take (decided vs) (verdictsBy R j job) i Unsent h
 
 -- only the first k are decided
-decided-early : (R : Rules) (job : List Txn) (j : R .J) {vs : List Verdict} {j′ : R .J} → Agrees R job j vs j′ → (i : ℕ) →
+decided-early : (R : Parameters) (job : List (List ℕ)) (j : R .J) {vs : List Verdict} {j′ : R .J} → Safe R job j vs j′ → (i : ℕ) →
     decides (getD vs i Unsent) ≡ true → i < decided vs
 decided-early R job j {vs} a i e = lt-of-not-le (λ h. go (eq-or-lt-of-le h))
   where
     go : (decided vs ≡ i) ⊎ (decided vs < i) → ⊥
-    go (inl q) = false≢true (sym (a .then-undecided) ∙ ap (λ (n : ℕ). decides (getD vs n Unsent)) q ∙ e)
-    go (inr h) = false≢true (ap decides (sym (a .then-unsent i h)) ∙ e)
+    go (inl q) = false≢true (sym (undecided-open (a .agrees .next-undecided)) ∙ ap (λ (n : ℕ). decides (getD vs n Unsent)) q ∙ e)
+    go (inr h) = false≢true (ap decides (sym (a .agrees .later-unsent i h)) ∙ e)
 
--- the decisions of a world are those of its device
-count-is : {J : Type 0} (w : World J) → decided (outcome w .verdicts) ≡ count (deviceOf w)
+-- the decisions of a modelEnds are those of its device
+count-is : {J : Type 0} (w : ModelEnds J) → decided (outcome w .verdicts) ≡ count (deviceOf w)
 unfolding count
-count-is (world (device p left told) s j) = rw decided-append (omega (arith, decided-unsent (length left)))
+count-is (modelEnds (device p left told) s j) = rw decided-append (omega (arith, decided-unsent (length left)))
 
 -- a run from a journal, whose device has stopped after n transmissions
-module _ (R : Rules) (laws : Laws R) (job : List Txn) (well-cut : WellCut R job) (j : R .J) where
+module _ (R : Parameters) (laws : Laws R) (job : List (List ℕ)) (well-cut : WellCut R job) (j : R .J) where
   -- the device has stopped
-  abbrev pub Halted : Limits → ℕ → List Harms → Type 0
+  abbrev pub Halted : Limits → ℕ → List Effects → Type 0
   Halted L n ms = haltsAt (deviceOf (played R L n job j ms)) ≡ true
 
   -- the verdicts and the journal agree with the clean ones
-  pub played-agrees : (L : Limits) (n : ℕ) (ms : List Harms) → Halted L n ms →
-      Agrees R job j (outcome (played R L n job j ms) .verdicts) (outcome (played R L n job j ms) .journal)
-  played-agrees L n ms h = go (played R L n job j ms) (played-end R job j ⊥ laws L well-cut n ms (undamaged R job j ⊥ ms (λ x. x)) h)
+  pub played-safe : (L : Limits) (n : ℕ) (ms : List Effects) → Halted L n ms →
+      Safe R job j (outcome (played R L n job j ms) .verdicts) (outcome (played R L n job j ms) .journal)
+  played-safe L n ms h = go (played R L n job j ms) (played-end R job j ⊥ laws L well-cut n ms (undamaged R job j ⊥ ms (λ x. x)) h)
     where
-      go : (w : World (R .J)) → EndOf R job j ⊥ w → Agrees R job j (outcome w .verdicts) (outcome w .journal)
-      go (world (device p left told) s j′) e = agrees R job j (summary R job j e)
+      go : (w : ModelEnds (R .J)) → EndOf R job j ⊥ w → Safe R job j (outcome w .verdicts) (outcome w .journal)
+      go (modelEnds (device p left told) s j′) e = safe R job j (summary R job j e)
 
   -- larger limits keep every decision
-  pub played-kept : (L L′ : Limits) (n n′ : ℕ) → L .D ≤ L′ .D → L .C ≤ L′ .C → n ≤ n′ → (ms : List Harms) → Halted L n ms → Halted L′ n′ ms → (i : ℕ) →
+  pub played-kept : (L L′ : Limits) (n n′ : ℕ) → L .D ≤ L′ .D → L .C ≤ L′ .C → n ≤ n′ → (ms : List Effects) → Halted L n ms → Halted L′ n′ ms → (i : ℕ) →
       decides (getD (outcome (played R L n job j ms) .verdicts) i Unsent) ≡ true →
       getD (outcome (played R L′ n′ job j ms) .verdicts) i Unsent ≡ getD (outcome (played R L n job j ms) .verdicts) i Unsent
   played-kept L L′ n n′ d c more ms h h′ i e =
-      let early = decided-early R job j (played-agrees L n ms h) i e in
-      decided-clean R job j (played-agrees L′ n′ ms h′) i
+      let early = decided-early R job j (played-safe L n ms h) i e in
+      decided-clean R job j (played-safe L′ n′ ms h′) i
       (omega (arith, decides-more R L L′ d c n n′ more job j ms, count-is (played R L n job j ms), count-is (played R L′ n′ job j ms)))
-      ∙ sym (decided-clean R job j (played-agrees L n ms h) i early)
+      ∙ sym (decided-clean R job j (played-safe L n ms h) i early)
 
   -- what a run without damage comes to
-  abbrev Clean : List Txn → List Verdict → R .J → Type 0
+  abbrev Clean : List (List ℕ) → List Verdict → R .J → Type 0
   Clean left told j′ =
-      (told ++ replicate (length left) Unsent ≡ cleanVerdicts R j job) × (j′ ≡ cleanJournal R j job (length job))
+      (told ++ replicate (length left) Unsent ≡ verdictsBy R j job) × (j′ ≡ journalBy R j job (length job))
 
   -- the end of a run without damage is the end of the job
-  end-clean : {left : List Txn} {told : List Verdict} {j′ : R .J} → Ended R job j (Unit {0}) left told j′ → Clean left told j′
-  unfolding verdicts
+  end-clean : {left : List (List ℕ)} {told : List Verdict} {j′ : R .J} → Ended R job j (Unit {0}) left told j′ → Clean left told j′
+  unfolding allJudged
   end-clean (broke m r e w n) = absurd (n tt)
   end-clean {left} {told} {j′} (quit r q) = go (R .match) refl
     where
       go : (c : Bool) → R .match ≡ c → Clean left told j′
       go true m =
           let e : job ≡ r .done = r .job-is ∙ rw (q tt m) (append-nil (r .done)) in (
-            rw (q tt m, append-nil, r .told-is, clean-verdicts-are R job j m) (ap (verdicts R j) (sym e)),
+            rw (q tt m, append-nil, r .told-is, clean-verdicts-are R job j m) (ap (allJudgedBy R j) (sym e)),
             rw (clean-journal-is R job j m (length job), take-length, e) (r .journal-is),
           )
       go false m = unmatched (r .known)
@@ -92,8 +93,8 @@ module _ (R : Rules) (laws : Laws R) (job : List Txn) (well-cut : WellCut R job)
 
   -- a run without damage is the clean run
   pub played-clean : (L : Limits) (n : ℕ) → Halted L n [] →
-      (outcome (played R L n job j []) .verdicts ≡ cleanVerdicts R j job) × (outcome (played R L n job j []) .journal ≡ cleanJournal R j job (length job))
+      (outcome (played R L n job j []) .verdicts ≡ verdictsBy R j job) × (outcome (played R L n job j []) .journal ≡ journalBy R j job (length job))
   played-clean L n h = go (played R L n job j []) (played-end R job j (Unit {0}) laws L well-cut n [] tt h)
     where
-      go : (w : World (R .J)) → EndOf R job j (Unit {0}) w → (outcome w .verdicts ≡ cleanVerdicts R j job) × (outcome w .journal ≡ cleanJournal R j job (length job))
-      go (world (device p left told) s j′) e = end-clean e
+      go : (w : ModelEnds (R .J)) → EndOf R job j (Unit {0}) w → (outcome w .verdicts ≡ verdictsBy R j job) × (outcome w .journal ≡ journalBy R j job (length job))
+      go (modelEnds (device p left told) s j′) e = end-clean e

@@ -1,19 +1,20 @@
 -- Facts about `if`, and about the count of decided verdicts.
 use mathlib.Core.Bool.{Bool, true, false, _&&_, false≢true}
 use mathlib.Core.List.{List, [], _∷_, _++_}
-use mathlib.Core.Path.{_≡_, refl}
+use mathlib.Core.Logic.{inl, inr}
+use mathlib.Core.Path.{_≡_, refl, sym}
 use lib.ListN.{replicate}
 use native.Mathlib.Omega.{arith}
 use Prim.Native.Nat.{ℕ, zero, suc, _+_}
 use Rattle.line.specs.Test.{if_then_else_}
 use Rattle.device.specs.declared.state.Verdict.{Verdict}
-use Rattle.device.specs.declared.state.Verdict.the-variants.{Unsent}
-use Rattle.demand.proofs.Model.{Device, World, world}
-use Rattle.demand.specs.Demand.{decides, decided}
+use Rattle.device.specs.declared.state.Verdict.the-variants.{Accepted, Rejected, Unconfirmed, Deferred, Unsent}
+use Rattle.demand.proofs.Model.{Device, ModelEnds, modelEnds}
+use Rattle.demand.specs.Demand.{decides, decided, Undecided}
 
--- the device of a world
-abbrev pub deviceOf : {J : Type 0} → World J → Device
-deviceOf (world d s j) = d
+-- the device of a modelEnds
+abbrev pub deviceOf : {J : Type 0} → ModelEnds J → Device
+deviceOf (modelEnds d s j) = d
 
 -- two `if`s, whose second test holds wherever the first does
 pub looser : {A : Type 0} (P : A → A → Type 0) (p q q′ : Bool) {u v : A} → (q ≡ true → q′ ≡ true) → ((z : A) → P z z) → P v u →
@@ -45,3 +46,17 @@ pub decided-unsent : (n : ℕ) → decided (replicate n Unsent) ≡ 0
 unfolding decided
 decided-unsent zero = refl
 decided-unsent (suc n) = decided-unsent n
+
+-- a verdict that decides nothing is unconfirmed, deferred or unsent
+pub open-undecided : (v : Verdict) → decides v ≡ false → Undecided v
+open-undecided Accepted e = absurd (false≢true (sym e))
+open-undecided Rejected e = absurd (false≢true (sym e))
+open-undecided Unconfirmed e = inl refl
+open-undecided Deferred e = inr (inl refl)
+open-undecided Unsent e = inr (inr refl)
+
+-- and these decide nothing
+pub undecided-open : {v : Verdict} → Undecided v → decides v ≡ false
+undecided-open (inl e) = rw e
+undecided-open (inr (inl e)) = rw e
+undecided-open (inr (inr e)) = rw e

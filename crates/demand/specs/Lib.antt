@@ -1,4 +1,4 @@
 pub mod Run
 pub mod Clean
-pub mod Demand
 pub mod Faults
+pub mod Demand

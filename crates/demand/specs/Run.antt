@@ -1,4 +1,5 @@
--- The run of both ends over a line that may damage what it carries (document 01, "The run"): over the steps' own definitions, byte for byte.
+-- The run of both ends over a line that may damage what it carries (document 01, "The run"): over the steps' own definitions, byte for byte,
+-- whatever the central's journal is made of.
 use mathlib.Core.List.{List, [], _∷_, tail}
 use Prim.Native.Nat.{ℕ, zero, suc, _+_, _*_}
 use lib.ListN.{length, set, replicate}
@@ -9,6 +10,9 @@ use Rattle.device.specs.Bound.{jobBlocks}
 use Rattle.device.specs.Reaction.{Move, first, moves, stringBytes}
 use Rattle.device.specs.declared.state.Given.{Given}
 use Rattle.device.specs.declared.state.Given.the-variants as Giving
+use Rattle.device.specs.declared.state.Report.{Report}
+use Rattle.device.specs.declared.state.Report.the-variants as Reporting
+use Rattle.device.specs.declared.state.Settings.{Settings}
 use Rattle.device.specs.declared.state.Step.{Step}
 use Rattle.device.specs.declared.state.Step.the-variants.{Opening}
 use Rattle.device.specs.declared.state.Verdict.{Verdict}
@@ -17,117 +21,131 @@ use Rattle.reply.specs.Reading.{replyRead}
 
 -- ── Damage ──
 
--- what becomes of a string on the line: it arrives whole, or nothing does, or other bytes do
+-- what becomes of a string on the line: it arrives whole, or nothing does, or other bytes do (R-10.4)
 pub data Damage : Type 0 where
   whole nothing : Damage
   other : List ℕ → Damage
 
--- what arrives of a string; an empty string stays empty
+-- what arrives of a string; an empty string stays empty (R-10.4)
 abbrev pub hit : Damage → List ℕ → List ℕ
 hit d [] = []
 hit whole (b ∷ bs) = b ∷ bs
 hit nothing (b ∷ bs) = []
 hit (other bytes) (b ∷ bs) = bytes
 
--- a list of damage: two entries for each transmission, for the string and for its answer
-abbrev pub Damages : Type 0
-Damages = List (Damage × Damage)
+-- the damage to one transmission: two entries, for the string and for its answer (R-10.4)
+pub record Transit : Type 0 where
+  pub out : Damage
+  pub back : Damage
 
--- the entries of the next transmission; past the end of the list all is whole
-abbrev pub next : Damages → Damage × Damage
-next [] = (whole, whole)
+-- a list of damage (R-10.4)
+abbrev pub Damages : Type 0
+Damages = List Transit
+
+-- the entries of the next transmission; past the end of the list all is whole (R-10.4)
+abbrev pub next : Damages → Transit
+next [] = record { out = whole; back = whole }
 next (d ∷ ds) = d
 
 -- ── Both ends ──
 
--- what a run takes: the job, the device's password and retry limit D, the central's rules (password, L, C, pager list), the starting journal
-pub record Inputs : Type 0 where
+-- what a run takes: the job, the device's settings (its password, D), the central's rules (its password, L, C, the pager list, its journal's room), and the starting journal (R-10.1)
+pub record Inputs (J : Type 0) : Type 0 where
   pub job : List (List ℕ)
-  pub password : List ℕ
-  pub retries : ℕ
-  pub rules : Rules
-  pub journal : List (List ℕ)
+  pub device : Settings
+  pub rules : Rules J
+  pub journal : J
 
--- both ends between two transmissions: the device's step, the verdicts so far, the central; and how many strings the device has put out
-pub record Ends : Type 0 where
+-- both ends between two transmissions: the device's step, the verdicts so far and what it reported; the central; and how many strings the device has put out (R-10.1)
+pub record Ends (J : Type 0) : Type 0 where
   pub step : Step
   pub verdicts : List Verdict
-  pub central : Central
+  pub report : Report
+  pub central : Central J
   pub transmissions : ℕ
 
--- the device starts at Opening with every verdict unsent, the central at Idle
-abbrev pub start : Inputs → Ends
-start i =
-    record {
-      step = Opening first;
-      verdicts = replicate (length (i .job)) Unsent;
-      central = at Idle [] (i .journal);
-      transmissions = 0;
-    }
-
--- ── One transmission ──
-
--- the string that the device puts out; none once it has stopped
-abbrev pub string : Inputs → Ends → List ℕ
-string i e = stringBytes (i .job) (i .password) (e .step)
-
--- what the central does with what arrives of it
-unfoldable pub responds : Inputs → Damage → Ends → Reaction
-responds i d e = reacts (i .rules) (e .central) (e .central .stage) (heard (e .central .stage) (hit d (string i e)))
-
--- the answer that the central puts out
-abbrev pub answer : Inputs → Damage → Ends → List ℕ
-answer i d e = answerBytes (responds i d e .answer)
-
--- what the device does with what arrives of it
-unfoldable pub follows : Inputs → Damage × Damage → Ends → Move
-follows i d e = moves (i .retries) (i .job) (e .step) (replyRead (hit (d .1) (answer i (d .0) e)))
-
--- a verdict that is given is put in its place
+-- a verdict that is given is put in its place (R-10.2)
 abbrev pub noted : Given → List Verdict → List Verdict
 noted (Giving.Verdict t v) vs = set vs t v
 noted Giving.Nothing vs = vs
 
--- a string counts as one transmission, no string as none
+-- what is reported stays reported (R-10.2)
+abbrev pub reported : Report → Report → Report
+reported (Reporting.Close r) before = Reporting.Close r
+reported Reporting.Nothing before = before
+
+-- a string counts as one transmission, no string as none (R-10.3)
 abbrev pub counted : List ℕ → ℕ
 counted [] = 0
 counted (b ∷ bs) = 1
 
--- both ends after one transmission and its answer; once the device has stopped nothing moves
-unfoldable pub exchange : Inputs → Damage × Damage → Ends → Ends
-exchange i d e =
-    record {
-      step = follows i d e .next;
-      verdicts = noted (follows i d e .given) (e .verdicts);
-      central = responds i (d .0) e .next;
-      transmissions = e .transmissions + counted (string i e);
-    }
-
--- ── The run ──
-
--- both ends after so many transmissions
-unfoldable pub after : Inputs → ℕ → Damages → Ends → Ends
-after i zero ds e = e
-after i (suc n) ds e = after i n (tail ds) (exchange i (next ds) e)
-
--- as many transmissions as a run takes at most: three for the opening, and D + 1 for the logon, for each block and for the close
-abbrev pub mostTransmissions : Inputs → ℕ
-mostTransmissions i = 3 + (i .retries + 1) * (jobBlocks (i .job) + 2)
-
--- both ends once the device has stopped
-abbrev pub final : Inputs → Damages → Ends
-final i ds = after i (mostTransmissions i) ds (start i)
-
 -- what a run comes to: the verdict of each transaction, the journal, the number of transmissions
-pub record Outcome : Type 0 where
+pub record Outcome (J : Type 0) : Type 0 where
   pub verdicts : List Verdict
-  pub journal : List (List ℕ)
+  pub journal : J
   pub transmissions : ℕ
 
--- what both ends hold of it
-abbrev pub outcome : Ends → Outcome
-outcome e = record { verdicts = e .verdicts; journal = e .central .journal; transmissions = e .transmissions }
+-- over any journal type
+module _ {J : Type 0} where
+  -- the device starts at Opening with every verdict unsent, the central at Idle (R-10.1)
+  abbrev pub start : Inputs J → Ends J
+  start i =
+      record {
+        step = Opening first;
+        verdicts = replicate (length (i .job)) Unsent;
+        report = Reporting.Nothing;
+        central = at Idle [] (i .journal);
+        transmissions = 0;
+      }
 
--- the run over a list of damage
-abbrev pub run : Inputs → Damages → Outcome
-run i ds = outcome (final i ds)
+  -- ── One transmission ──
+
+  -- the string that the device puts out; none once it has stopped (R-10.2)
+  abbrev pub string : Inputs J → Ends J → List ℕ
+  string i e = stringBytes (i .device) (i .job) (e .step)
+
+  -- what the central does with what arrives of it (R-10.2)
+  unfoldable pub responds : Inputs J → Damage → Ends J → Reaction J
+  responds i d e = reacts (i .rules) (e .central) (e .central .stage) (heard (e .central .stage) (hit d (string i e)))
+
+  -- the answer that the central puts out (R-10.2)
+  abbrev pub answer : Inputs J → Damage → Ends J → List ℕ
+  answer i d e = answerBytes (responds i d e .answer)
+
+  -- what the device does with what arrives of it (R-10.2)
+  unfoldable pub follows : Inputs J → Transit → Ends J → Move
+  follows i d e = moves (i .device) (i .job) (e .step) (replyRead (hit (d .back) (answer i (d .out) e)))
+
+  -- both ends after one transmission and its answer; once the device has stopped nothing moves (R-10.2, R-10.3)
+  unfoldable pub exchange : Inputs J → Transit → Ends J → Ends J
+  exchange i d e =
+      record {
+        step = follows i d e .next;
+        verdicts = noted (follows i d e .given) (e .verdicts);
+        report = reported (follows i d e .report) (e .report);
+        central = responds i (d .out) e .next;
+        transmissions = e .transmissions + counted (string i e);
+      }
+
+  -- ── The run ──
+
+  -- both ends after so many transmissions (R-10.2)
+  unfoldable pub after : Inputs J → ℕ → Damages → Ends J → Ends J
+  after i zero ds e = e
+  after i (suc n) ds e = after i n (tail ds) (exchange i (next ds) e)
+
+  -- as many transmissions as a run takes at most: three for the opening, and D + 1 for the logon, for each block and for the close (R-10.2)
+  abbrev pub mostTransmissions : Inputs J → ℕ
+  mostTransmissions i = 3 + (i .device .retries + 1) * (jobBlocks (i .device) (i .job) + 2)
+
+  -- both ends once the device has stopped (R-10.2)
+  abbrev pub final : Inputs J → Damages → Ends J
+  final i ds = after i (mostTransmissions i) ds (start i)
+
+  -- what both ends hold of what a run comes to
+  abbrev pub outcome : Ends J → Outcome J
+  outcome e = record { verdicts = e .verdicts; journal = e .central .journal; transmissions = e .transmissions }
+
+  -- the run over a list of damage (R-10.2)
+  abbrev pub run : Inputs J → Damages → Outcome J
+  run i ds = outcome (final i ds)

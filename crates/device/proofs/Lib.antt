@@ -1,10 +1,12 @@
 pub mod BoundLaws
-pub mod DecodedLaws
 pub mod DeviceLaws
 pub mod JobLaws
 pub mod MeaningLaws
+pub mod MoveLaws
 pub mod PlaceLaws
 pub mod RangeLaws
+pub mod SegmentsLaws
 pub mod StepLaws
 pub mod StringLaws
+pub mod WaitLaws
 pub mod WritingLaws

@@ -1,42 +1,36 @@
--- What a recognized reply says, by the tags that the code tells meanings apart by.
-use mathlib.Core.Bool.{true, false, not, _||_, or-true}
-use mathlib.Core.List.{List, map}
-use mathlib.Core.Logic.{_⊎_, inl, inr}
-use mathlib.Core.Path.{_≡_, refl, sym, _∙_}
+-- The tags by which the code tells meanings apart: a meaning with the tag of one of several is one of these.
+use mathlib.Core.List.{List, [], _∷_, map}
+use mathlib.Core.Logic.{inl, inr}
+use mathlib.Core.Path.{_≡_, sym, subst}
 use Prim.Native.Nat.{ℕ}
-use borrow.Author.Tests.{eq-eqb, ne-eqb}
+use borrow.Enum.Known.{lives-at}
 use denote.Enum.Declared.{tagOf}
-use lib.Dec.{T}
-use types.Run.{OneOf, miss}
-use mir.Val.{hasKey}
-use Rattle.reply.proofs.Meaning.{the-type}
+use types.Run.{OneOf}
+use Rattle.reply.proofs.Meaning.{enum, the-type}
 use Rattle.reply.specs.declared.Meaning.{Meaning}
 use Rattle.reply.specs.declared.Meaning.the-variants.{IdRequest, Acceptance, Ack, Nak, Rs, Eot}
-use Rattle.reply.specs.declared.Reply.the-variants.{Recognized}
-use Rattle.device.specs.Reaction.{meaningNumber, _says_}
 
--- the tag by which the code tells a meaning
+-- the tag of a meaning
 abbrev pub tag : Meaning → ℕ
 tag m = tagOf the-type m
 
--- the tags are the numbers of the meanings
-tag-number : (m : Meaning) → tag m ≡ meaningNumber m
-tag-number IdRequest = refl
-tag-number Acceptance = refl
-tag-number Ack = refl
-tag-number Nak = refl
-tag-number Rs = refl
-tag-number Eot = refl
+-- no two have the same
+tag-same : (m n : Meaning) → tag m ≡ tag n → m ≡ n
+tag-same m IdRequest e = lives-at enum m 0 e .1
+tag-same m Acceptance e = lives-at enum m 1 e .1
+tag-same m Ack e = lives-at enum m 2 e .1
+tag-same m Nak e = lives-at enum m 3 e .1
+tag-same m Rs e = lives-at enum m 4 e .1
+tag-same m Eot e = lives-at enum m 5 e .1
 
--- a meaning is told by its tag
-pub says-same : (m n : Meaning) → tag m ≡ tag n → Recognized m says n ≡ true
-says-same m n e = eq-eqb (meaningNumber m) (meaningNumber n) (sym (tag-number m) ∙ e ∙ tag-number n)
+-- it holds of each of these
+abbrev pub Each : (Meaning → Type 0) → List Meaning → Type 0
+Each P [] = Unit {0}
+Each P (m ∷ ms) = P m × Each P ms
 
--- a meaning with the tag of one of these is none of the others
-pub says-other : (m n : Meaning) (ms : List Meaning) → OneOf (map tag ms) (tag m) → T (not (hasKey (map tag ms) (tag n))) → Recognized m says n ≡ false
-says-other m n ms h t = ne-eqb (meaningNumber m) (meaningNumber n) (λ e. miss (map tag ms) (tag n) t (rw (tag-number m ∙ e ∙ sym (tag-number n)) at h))
-
--- a meaning with one of two tags is one of the two
-pub says-either : (m n k : Meaning) → (tag m ≡ tag n) ⊎ (tag m ≡ tag k) → (Recognized m says n || Recognized m says k) ≡ true
-says-either m n k (inl e) = rw (says-same m n e)
-says-either m n k (inr e) = rw (says-same m k e, or-true)
+-- what holds of each of these holds of a meaning with the tag of one
+pub told : (P : Meaning → Type 0) (ms : List Meaning) (m : Meaning) → OneOf (map tag ms) (tag m) → Each P ms → P m
+told P [] m h each = absurd h
+told P (n ∷ []) m h each = subst P (sym (tag-same m n h)) (each .0)
+told P (n ∷ k ∷ ms) m (inl h) each = subst P (sym (tag-same m n h)) (each .0)
+told P (n ∷ k ∷ ms) m (inr h) each = told P (k ∷ ms) m h (each .1)

@@ -1,20 +1,20 @@
 -- Attempts: a move leads to a step whose attempts are in range, so that a call stays in range.
-use mathlib.Core.Bool.{Bool, true, false, _&&_, _||_, and-eq-true-iff}
+use mathlib.Core.Bool.{Bool, true, false}
 use mathlib.Core.List.{List}
 use mathlib.Core.Path.{_≡_, refl, sym}
 use Prim.Native.Nat.{ℕ, _+_}
 use native.Mathlib.Omega.{arith}
 use borrow.Author.Tests.{le-leb, le-ltb, lt-ltb, leb-true, leb-false, ltb-true}
-use lib.Dec.{leb, ltb, eqb}
+use lib.Dec.{leb, ltb}
 use lib.ListN.{length}
-use Rattle.reply.specs.declared.Meaning.the-variants.{IdRequest, Acceptance, Ack, Nak, Rs, Eot}
+use Rattle.line.proofs.OutcomeLaws.{choice}
 use Rattle.reply.specs.declared.Reply.{Reply}
-use Rattle.device.specs.Reaction.{Move, _says_, again, blocksIn, onwards, moves}
+use Rattle.device.specs.Reaction.{Move, again, onwards, moves}
 use Rattle.device.specs.Step.{attemptsInRange, stepInRange}
 use Rattle.device.specs.declared.state.Place.{Place}
+use Rattle.device.specs.declared.state.Settings.{Settings}
 use Rattle.device.specs.declared.state.Step.{Step}
-use Rattle.device.specs.declared.state.Step.the-variants.{Opening, Logon, Sending, Closing, Stopped}
-use Rattle.line.proofs.OutcomeLaws.{choice}
+use Rattle.device.proofs.MoveLaws.{Leads, requested, reopens, unanswered, admitted, relogs, turned-away, accepted, continued, resends, exhausted, rejected, hung-up, unconfirmed, recloses, reported, stays, moves-lead}
 
 -- ── General ──
 
@@ -38,34 +38,32 @@ again-in-range most p e =
     let below = ltb-true (p .attempts) most e in
     rw (le-leb 1 (p .attempts + 1) (omega arith), le-leb (p .attempts + 1) most (omega arith))
 
-module _ (retries : ℕ) (job : List (List ℕ)) where
-  -- the move leads to a step in range
-  abbrev Ranged : Move → Type 0
-  Ranged m = stepInRange retries (m .next) ≡ true
-
-  -- so is the first attempt of a transaction, or of the close
-  onwards-in-range : (t : ℕ) → stepInRange retries (onwards job t) ≡ true
+module _ (settings : Settings) (job : List (List ℕ)) where
+  -- the first attempt of a transaction, or of the close, is in range
+  onwards-in-range : (t : ℕ) → stepInRange settings (onwards job t) ≡ true
   onwards-in-range t =
-      let first = le-leb 1 (retries + 1) (omega arith) in
-      choice (λ s. stepInRange retries s ≡ true) (ltb t (length job)) (λ e. first) (λ e. first)
+      let first = le-leb 1 (settings .retries + 1) (omega arith) in
+      choice (λ s. stepInRange settings s ≡ true) (ltb t (length job)) (λ e. first) (λ e. first)
 
-  -- a move leads to a step whose attempts are in range
-  pub moves-in-range : (step : Step) (r : Reply) → stepInRange retries (moves retries job step r .next) ≡ true
-  unfolding moves
-  moves-in-range (Opening p) r =
-      choice Ranged (r says IdRequest) (λ e. le-leb 1 (retries + 1) (omega arith))
-      (λ e. choice Ranged (ltb (p .attempts) 3) (again-in-range 3 p) (λ e. refl))
-  moves-in-range (Logon p) r =
-      choice Ranged (r says Acceptance) (λ e. onwards-in-range 0)
-      (λ e. choice Ranged ((r says Nak || r says IdRequest) && ltb (p .attempts) (retries + 1))
-      (λ e. again-in-range (retries + 1) p (and-eq-true-iff (r says Nak || r says IdRequest) (ltb (p .attempts) (retries + 1)) .0 e .1)) (λ e. refl))
-  moves-in-range (Sending p) r =
-      choice Ranged (r says Ack)
-      (λ e. choice Ranged (eqb (p .block + 1) (blocksIn job (p .transaction))) (λ e. onwards-in-range (p .transaction + 1)) (λ e. le-leb 1 (retries + 1) (omega arith)))
-      (λ e. choice Ranged (r says Nak) (λ e. choice Ranged (ltb (p .attempts) (retries + 1)) (again-in-range (retries + 1) p) (λ e. refl))
-      (λ e. choice Ranged (r says Rs) (λ e. onwards-in-range (p .transaction + 1))
-      (λ e. choice Ranged (r says Eot) (λ e. refl) (λ e. refl))))
-  moves-in-range (Closing p) r =
-      choice Ranged (r says Nak && ltb (p .attempts) (retries + 1))
-      (λ e. again-in-range (retries + 1) p (and-eq-true-iff (r says Nak) (ltb (p .attempts) (retries + 1)) .0 e .1)) (λ e. refl)
-  moves-in-range Stopped r = refl
+  -- each move leads to a step whose attempts are in range
+  leads-in-range : {step : Step} {r : Reply} {m : Move} → Leads settings job step r m → stepInRange settings (m .next) ≡ true
+  leads-in-range requested = le-leb 1 (settings .retries + 1) (omega arith)
+  leads-in-range (reopens {p} e) = again-in-range 3 p e
+  leads-in-range unanswered = refl
+  leads-in-range admitted = onwards-in-range 0
+  leads-in-range (relogs {p} e) = again-in-range (settings .retries + 1) p e
+  leads-in-range turned-away = refl
+  leads-in-range (accepted {p} e) = onwards-in-range (p .transaction + 1)
+  leads-in-range (continued e) = le-leb 1 (settings .retries + 1) (omega arith)
+  leads-in-range (resends {p} e) = again-in-range (settings .retries + 1) p e
+  leads-in-range (exhausted e) = refl
+  leads-in-range (rejected {p}) = onwards-in-range (p .transaction + 1)
+  leads-in-range hung-up = refl
+  leads-in-range (unconfirmed e) = refl
+  leads-in-range (recloses {p} e) = again-in-range (settings .retries + 1) p e
+  leads-in-range reported = refl
+  leads-in-range stays = refl
+
+  -- so does the move of every reply
+  pub moves-in-range : (step : Step) (r : Reply) → stepInRange settings (moves settings job step r .next) ≡ true
+  moves-in-range step r = leads-in-range (moves-lead settings job step r)

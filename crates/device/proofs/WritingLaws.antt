@@ -1,16 +1,15 @@
--- What the device puts on the line: a text of 7-bit values, and the logon, which is one.
+-- The logon: a text of 7-bit values, written piece by piece.
 use mathlib.Core.Bool.{true, and-eq-true-iff}
-use mathlib.Core.List.{List, [], _∷_, _++_, map}
-use mathlib.Core.Path.{_≡_, refl, sym}
+use mathlib.Core.List.{List, [], _∷_, _++_}
+use mathlib.Core.Path.{_≡_, refl}
 use Prim.Native.Nat.{ℕ, _+_, _-_, _≤_}
 use native.Mathlib.Omega.{arith}
-use borrow.Author.Tests.{le-ltb, leb-true}
+use borrow.Author.Tests.{leb-true}
 use lib.Dec.{leb}
-use lib.ListN.{length, take, drop, length-map}
+use lib.ListN.{length, take, drop}
 use lib.Seq.{length-take-le}
 use Rattle.line.specs.Answer.{copied, Laid, Wrote}
 use Rattle.line.specs.Character.{CR, ESC, seven, alphanumeric}
-use Rattle.line.specs.Parity.{parityOn, withParity}
 use Rattle.line.specs.Password.{passwordText, passwordInRange}
 use Rattle.line.specs.Test.{all}
 use Rattle.line.specs.Text.{bytesOf}
@@ -19,17 +18,6 @@ use Rattle.line.specs.declared.password.Password.{Password}
 use Rattle.line.proofs.AllLaws.{all-append, all-weaken, alphanumeric-seven}
 use Rattle.line.proofs.CopyLaws.{copied-laid, copied-part}
 use Rattle.device.specs.Reaction.{logonText}
-
--- ── A text ──
-
--- a text of 7-bit values that fits is put on the line
-pub parity-laid : {r : Written} (text m after : List ℕ) → all seven text ≡ true → length text ≤ length m → Wrote (parityOn text (length m)) r m after →
-    Laid (map withParity text) (length text) m after
-unfolding parityOn
-parity-laid text m after narrow fits w =
-    record { counts = sym (length-map text withParity); leaves = rw (le-ltb (length m) (length text) fits, narrow) at (w .leaves) }
-
--- ── The logon ──
 
 -- a password in range has at most 6 characters, all of them 7-bit values
 pub password-parts : (p : Password) → passwordInRange p ≡ true → (p .length ≤ 6) × (all seven (passwordText p) ≡ true)

@@ -2,39 +2,35 @@
 use crate::state::Place;
 use crate::state::Settings;
 use crate::state::Step;
-use block::segmentation::block_count;
-use journal::record::oldest;
 use line::password::is_password;
+use line::setting::MOST_RETRIES;
+use segmentation::block_count;
+ghost use mathlib.Core.List.{List, []};
 ghost use mathlib.Core.Path.{_≡_};
-ghost use Prim.Native.Nat.{_≤_};
-ghost use lib.ListN.{length};
-ghost use Rattle.line.specs.Answer.{output};
-ghost use Rattle.journal.specs.Walk.{decode};
-ghost use Rattle.device.specs.Reaction.{blocksIn};
+ghost use Prim.Native.Nat.{ℕ, _≤_};
+ghost use lib.ListN.{getD, length};
+ghost use Rattle.device.specs.Inner.{SendsOf, transactionOf};
+ghost use Rattle.device.specs.Reaction.{segmentsOf};
 ghost use Rattle.device.specs.Step.{attemptsInRange, exists, nowhere, settingsInRange, somewhere, stepInRange};
+ghost use Rattle.device.specs.declared.state.Settings.{Settings};
 
 // The most strings that open a call.
 pub(crate) const OPENINGS: usize = 3;
-
-// The highest retry limit.
-const RETRIES: usize = 9;
 
 // A password, and the retry limit at most 9.
 pub fn settings_in_range(settings: Settings) -> bool
     ensures { λ r. ⌜ r ≡ settingsInRange settings ⌝ }
 {
     let password = settings.password;
-    if !is_password(password) {
-        return false;
-    }
-    settings.retries <= RETRIES
+    is_password(password) & (settings.retries <= MOST_RETRIES)
 }
 
 // The attempts of a saved step are 1 to the step's most.
-pub(crate) fn step_in_range(retries: usize, step: Step) -> bool
-    requires { ⌜ retries ≤ 9 ⌝ }
-    ensures { λ r. ⌜ r ≡ stepInRange retries step ⌝ }
+pub(crate) fn step_in_range(settings: Settings, step: Step) -> bool
+    requires { ⌜ settings .retries ≤ 9 ⌝ }
+    ensures { λ r. ⌜ r ≡ stepInRange settings step ⌝ }
 {
+    let retries = settings.retries;
     match step {
         Step::Opening(place) => attempts_in_range(OPENINGS, place),
         Step::Logon(place) => attempts_in_range(retries + 1, place),
@@ -48,21 +44,21 @@ pub(crate) fn step_in_range(retries: usize, step: Step) -> bool
 fn attempts_in_range(most: usize, place: Place) -> bool
     ensures { λ r. ⌜ r ≡ attemptsInRange most place ⌝ }
 {
-    if place.attempts < 1 {
-        return false;
-    }
-    place.attempts <= most
+    (1 <= place.attempts) & (place.attempts <= most)
 }
 
-// The transaction and block of a saved step exist in the job, which has so many transactions.
-pub(crate) fn place_exists(job: &[u8], count: usize, step: Step) -> bool
-    requires { ⌜ count ≡ length (output (decode (now job))) ⌝ }
-    ensures { λ r. ⌜ r ≡ exists (output (decode (now (job .entry)))) step ⌝ }
+// The transaction and block of a saved step exist in a job of so many transactions, of which this
+// is the step's.
+pub(crate) fn place_exists(count: usize, info: &[u8], step: Step) -> bool
+    ensures { λ r. ⌜
+        ((settings : Settings) (job : List (List ℕ)) → length job ≡ count → SendsOf job step (now (info .entry)) →
+        r ≡ exists settings job step)
+        ⌝ }
 {
     match step {
         Step::Opening(place) => is_nowhere(place),
         Step::Logon(place) => is_nowhere(place),
-        Step::Sending(place) => block_exists(job, count, place),
+        Step::Sending(place) => block_exists(count, info, place),
         Step::Closing(place) => is_nowhere(place),
         Step::Stopped => true,
     }
@@ -72,26 +68,36 @@ pub(crate) fn place_exists(job: &[u8], count: usize, step: Step) -> bool
 fn is_nowhere(place: Place) -> bool
     ensures { λ r. ⌜ r ≡ nowhere place ⌝ }
 {
-    if place.transaction != 0 {
-        return false;
-    }
-    place.block == 0
+    (place.transaction == 0) & (place.block == 0)
 }
 
-// The job has such a transaction, and that such a block.
-fn block_exists(job: &[u8], count: usize, place: Place) -> bool
-    requires { ⌜ count ≡ length (output (decode (now job))) ⌝ }
-    ensures { λ r. ⌜ r ≡ somewhere (output (decode (now (job .entry)))) place ⌝ }
+// The job, of so many transactions, has such a transaction, and that, with this information, such a
+// block.
+fn block_exists(count: usize, info: &[u8], place: Place) -> bool
+    ensures { λ r. ⌜
+        ((settings : Settings) (job : List (List ℕ)) → length job ≡ count →
+        getD job (place .transaction) [] ≡ now (info .entry) → r ≡ somewhere settings job place)
+        ⌝ }
 {
-    if count <= place.transaction {
-        return false;
-    }
-    place.block < blocks_in(job, place.transaction)
+    (place.transaction < count) & (place.block < blocks_of(info))
 }
 
-// How many blocks a transaction of the job takes.
-pub(crate) fn blocks_in(job: &[u8], transaction: usize) -> usize
-    ensures { λ r. ⌜ r ≡ blocksIn (output (decode (now (job .entry)))) transaction ⌝ }
+// How many blocks the transaction with this information takes.
+pub(crate) fn blocks_of(info: &[u8]) -> usize
+    ensures { λ r. ⌜ ((settings : Settings) → r ≡ length (segmentsOf settings (now (info .entry)))) ⌝ }
 {
-    block_count(oldest(job, transaction).len())
+    block_count(info.len())
+}
+
+// The transaction whose block a step sends; the first outside sending.
+pub(crate) fn transaction_of(step: Step) -> usize
+    ensures { λ r. ⌜ r ≡ transactionOf step ⌝ }
+{
+    match step {
+        Step::Opening(_) => 0,
+        Step::Logon(_) => 0,
+        Step::Sending(place) => place.transaction,
+        Step::Closing(_) => 0,
+        Step::Stopped => 0,
+    }
 }

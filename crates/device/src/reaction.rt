@@ -1,23 +1,21 @@
 // What a reply does at each step: the next step, the verdict it gives, and what it reports.
 use crate::range::OPENINGS;
-use crate::range::blocks_in;
+use crate::range::blocks_of;
 use crate::state::Given;
 use crate::state::Place;
 use crate::state::Report;
+use crate::state::Settings;
 use crate::state::Step;
 use crate::state::Verdict;
 use reply::Meaning;
 use reply::Reply;
-ghost use mathlib.Core.Bool.{true};
 ghost use mathlib.Core.List.{List};
 ghost use mathlib.Core.Path.{_≡_};
-ghost use Prim.Native.Nat.{ℕ, _+_, _≤_, _<_};
-ghost use lib.Dec.{ltb};
+ghost use Prim.Native.Nat.{ℕ, _≤_, _<_};
 ghost use lib.ListN.{length};
-ghost use Rattle.line.specs.Answer.{output};
-ghost use Rattle.journal.specs.Walk.{decode};
+ghost use Rattle.device.specs.Inner.{Waits};
 ghost use Rattle.device.specs.Reaction as Reaction;
-ghost use Rattle.device.specs.Step.{exists};
+ghost use Rattle.device.specs.declared.state.Settings.{Settings};
 
 // The step behind a reply, the verdict it gives, and what it reports.
 pub(crate) struct Move {
@@ -26,24 +24,46 @@ pub(crate) struct Move {
     pub report: Report,
 }
 
-// What the device does with a reply, step by step. The job has so many transactions.
-pub(crate) fn moves(retries: usize, job: &[u8], count: usize, step: Step, reply: Reply) -> Move
-    requires { ⌜ (retries ≤ 9) × (count ≡ length (output (decode (now job)))) × (exists (output (decode (now job))) step ≡ true) ⌝ }
-    ensures { λ r. ⌜ Reaction.moveAs r ≡ Reaction.moves retries (output (decode (now (job .entry)))) step reply ⌝ }
+// The code of a reply to a block.
+pub(crate) enum Code {
+    Ack,
+    Nak,
+    Rs,
+    // ESC EOT: the central hangs up.
+    Eot,
+}
+
+// A reply as the block's step reads it, to be taken apart by `let .. else`.
+pub(crate) enum BlockReply {
+    Recognized(Code),
+    Unrecognized,
+}
+
+// What the device does with a reply, step by step. The job has so many transactions, and the step's
+// has this information.
+pub(crate) fn moves(settings: Settings, count: usize, info: &[u8], step: Step, reply: Reply) -> Move
+    requires { ⌜
+        (settings .retries ≤ 9)
+        × ((job : List (List ℕ)) × (length job ≡ count) × Waits settings job step (now info))
+        ⌝ }
+    ensures { λ r. ⌜
+        ((job : List (List ℕ)) → length job ≡ count → Waits settings job step (now (info .entry)) →
+        Reaction.moveAs r ≡ Reaction.moves settings job step reply)
+        ⌝ }
 {
     match step {
         Step::Opening(place) => opens(place, reply),
-        Step::Logon(place) => logs_on(retries, count, place, reply),
+        Step::Logon(place) => logs_on(settings, count, place, reply),
         Step::Sending(place) => {
-            let blocks = blocks_in(job, place.transaction);
-            sends(retries, count, blocks, place, reply)
+            let blocks = blocks_of(info);
+            sends(settings, count, blocks, place, reply)
         }
-        Step::Closing(place) => closes(retries, place, reply),
+        Step::Closing(place) => closes(settings, place, reply),
         Step::Stopped => goes(Step::Stopped),
     }
 }
 
-// Opening: an ID request leads to the logon; anything else, and what is unread, to CR again.
+// Opening: an ID request leads to the logon; anything else, recognized or not, to CR again.
 fn opens(place: Place, reply: Reply) -> Move
     ensures { λ r. ⌜ Reaction.moveAs r ≡ Reaction.opens place reply ⌝ }
 {
@@ -69,10 +89,12 @@ fn opens_again(place: Place) -> Move
 }
 
 // Logon: an acceptance leads to the first transaction, NAK or an ID request to the logon again;
-// anything else, and what is unread, stops.
-fn logs_on(retries: usize, count: usize, place: Place, reply: Reply) -> Move
-    requires { ⌜ retries ≤ 9 ⌝ }
-    ensures { λ r. ⌜ ((job : List (List ℕ)) → length job ≡ count → Reaction.moveAs r ≡ Reaction.logsOn retries job place reply) ⌝ }
+// anything else, recognized or not, stops.
+fn logs_on(settings: Settings, count: usize, place: Place, reply: Reply) -> Move
+    requires { ⌜ settings .retries ≤ 9 ⌝ }
+    ensures { λ r. ⌜
+        ((job : List (List ℕ)) → length job ≡ count → Reaction.moveAs r ≡ Reaction.logsOn settings job place reply)
+        ⌝ }
 {
     let Reply::Recognized(meaning) = reply else {
         return goes(Step::Stopped);
@@ -80,7 +102,7 @@ fn logs_on(retries: usize, count: usize, place: Place, reply: Reply) -> Move
     match meaning {
         Meaning::Acceptance => goes(onwards(count, 0)),
         Meaning::Nak | Meaning::IdRequest => {
-            if may_repeat(retries, place) {
+            if may_repeat(settings, place) {
                 goes(Step::Logon(again(place)))
             } else {
                 goes(Step::Stopped)
@@ -90,34 +112,55 @@ fn logs_on(retries: usize, count: usize, place: Place, reply: Reply) -> Move
     }
 }
 
-// A block, of so many that its transaction takes: what is unread leaves it unconfirmed, and is
-// never sent again.
-fn sends(retries: usize, count: usize, blocks: usize, place: Place, reply: Reply) -> Move
-    requires { ⌜ (retries ≤ 9) × (place .transaction < count) × (place .block < blocks) ⌝ }
-    ensures { λ r. ⌜ ((job : List (List ℕ)) → length job ≡ count → Reaction.blocksIn job (place .transaction) ≡ blocks → Reaction.moveAs r ≡ Reaction.sends retries job place reply) ⌝ }
+// A block, of so many that its transaction takes: what is unrecognized leaves it unconfirmed,
+// and it is never sent again.
+fn sends(settings: Settings, count: usize, blocks: usize, place: Place, reply: Reply) -> Move
+    requires { ⌜ (settings .retries ≤ 9) × (place .transaction < count) × (place .block < blocks) ⌝ }
+    ensures { λ r. ⌜
+        ((job : List (List ℕ)) → length job ≡ count → Reaction.blocksIn settings job (place .transaction) ≡ blocks →
+        Reaction.moveAs r ≡ Reaction.sends settings job place reply)
+        ⌝ }
 {
     let transaction = place.transaction;
-    let Reply::Recognized(meaning) = reply else {
+    let BlockReply::Recognized(code) = block_reply(reply) else {
         return gives(transaction, Verdict::Unconfirmed, Step::Stopped);
     };
-    match meaning {
-        Meaning::Ack => sends_next(count, blocks, place),
-        Meaning::Nak => sends_again(retries, place),
-        Meaning::Rs => {
+    match code {
+        Code::Ack => sends_next(count, blocks, place),
+        Code::Nak => sends_again(settings, place),
+        Code::Rs => {
             let next = onwards(count, transaction + 1);
             gives(transaction, Verdict::Rejected, next)
         }
-        Meaning::Eot => gives(transaction, Verdict::Deferred, Step::Stopped),
-        Meaning::IdRequest | Meaning::Acceptance => {
-            gives(transaction, Verdict::Unconfirmed, Step::Stopped)
-        }
+        Code::Eot => gives(transaction, Verdict::Deferred, Step::Stopped),
+    }
+}
+
+// A reply as the block's step reads it: an ID request and a logon acceptance are
+// unrecognized there (document 01's unread).
+fn block_reply(reply: Reply) -> BlockReply
+    ensures { λ r. ⌜ r ≡ Reaction.blockReply reply ⌝ }
+{
+    let Reply::Recognized(meaning) = reply else {
+        return BlockReply::Unrecognized;
+    };
+    match meaning {
+        Meaning::Ack => BlockReply::Recognized(Code::Ack),
+        Meaning::Nak => BlockReply::Recognized(Code::Nak),
+        Meaning::Rs => BlockReply::Recognized(Code::Rs),
+        Meaning::Eot => BlockReply::Recognized(Code::Eot),
+        Meaning::IdRequest | Meaning::Acceptance => BlockReply::Unrecognized,
     }
 }
 
 // The next block, or accepted and the next transaction, where the block ended its own.
 fn sends_next(count: usize, blocks: usize, place: Place) -> Move
     requires { ⌜ (place .transaction < count) × (place .block < blocks) ⌝ }
-    ensures { λ r. ⌜ ((job : List (List ℕ)) → length job ≡ count → Reaction.blocksIn job (place .transaction) ≡ blocks → Reaction.moveAs r ≡ Reaction.sendsNext job place) ⌝ }
+    ensures { λ r. ⌜
+        ((settings : Settings) (job : List (List ℕ)) → length job ≡ count →
+        Reaction.blocksIn settings job (place .transaction) ≡ blocks →
+        Reaction.moveAs r ≡ Reaction.sendsNext settings job place)
+        ⌝ }
 {
     let transaction = place.transaction;
     let left = blocks - place.block;
@@ -133,27 +176,28 @@ fn sends_next(count: usize, blocks: usize, place: Place) -> Move
 }
 
 // The block again, while the retry limit lets it, then deferred.
-fn sends_again(retries: usize, place: Place) -> Move
-    requires { ⌜ retries ≤ 9 ⌝ }
-    ensures { λ r. ⌜ Reaction.moveAs r ≡ Reaction.sendsAgain retries place ⌝ }
+fn sends_again(settings: Settings, place: Place) -> Move
+    requires { ⌜ settings .retries ≤ 9 ⌝ }
+    ensures { λ r. ⌜ Reaction.moveAs r ≡ Reaction.sendsAgain settings place ⌝ }
 {
-    if may_repeat(retries, place) {
+    if may_repeat(settings, place) {
         return goes(Step::Sending(again(place)));
     }
     gives(place.transaction, Verdict::Deferred, Step::Stopped)
 }
 
-// Closing: NAK leads to the close again; any other reply, and what is unread, is reported.
-fn closes(retries: usize, place: Place, reply: Reply) -> Move
-    requires { ⌜ retries ≤ 9 ⌝ }
-    ensures { λ r. ⌜ Reaction.moveAs r ≡ Reaction.closes retries place reply ⌝ }
+// Closing: NAK leads to the close again; any other reply, recognized or not, is
+// reported.
+fn closes(settings: Settings, place: Place, reply: Reply) -> Move
+    requires { ⌜ settings .retries ≤ 9 ⌝ }
+    ensures { λ r. ⌜ Reaction.moveAs r ≡ Reaction.closes settings place reply ⌝ }
 {
     let Reply::Recognized(meaning) = reply else {
         return reports(reply);
     };
     match meaning {
         Meaning::Nak => {
-            if may_repeat(retries, place) {
+            if may_repeat(settings, place) {
                 goes(Step::Closing(again(place)))
             } else {
                 reports(reply)
@@ -165,10 +209,10 @@ fn closes(retries: usize, place: Place, reply: Reply) -> Move
 }
 
 // The string may be sent once more: in all, the retry limit and one.
-fn may_repeat(retries: usize, place: Place) -> bool
-    ensures { λ r. ⌜ r ≡ ltb (place .attempts) (retries + 1) ⌝ }
+fn may_repeat(settings: Settings, place: Place) -> bool
+    ensures { λ r. ⌜ r ≡ Reaction.mayRepeat settings place ⌝ }
 {
-    place.attempts <= retries
+    place.attempts <= settings.retries
 }
 
 // The first block of a transaction, or the close where the job, of so many transactions, has none

@@ -2,6 +2,8 @@
 use line::Password;
 use line::Written;
 use reply::Reply;
+ghost use mathlib.Core.Path.{_≡_};
+ghost use Rattle.device.specs.Reaction.{verdictNumber};
 
 pub struct Settings {
     pub password: Password,
@@ -42,6 +44,19 @@ pub enum Verdict {
     Deferred,
     // 5: never sent (unsent).
     Unsent,
+}
+
+// The number of a verdict.
+pub fn verdict_number(verdict: Verdict) -> u8
+    ensures { λ r. ⌜ r ≡ verdictNumber verdict ⌝ }
+{
+    match verdict {
+        Verdict::Accepted => 1,
+        Verdict::Rejected => 2,
+        Verdict::Unconfirmed => 3,
+        Verdict::Deferred => 4,
+        Verdict::Unsent => 5,
+    }
 }
 
 // The verdict that a step gives, and to which transaction.

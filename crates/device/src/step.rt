@@ -2,6 +2,7 @@
 use crate::range::place_exists;
 use crate::range::settings_in_range;
 use crate::range::step_in_range;
+use crate::range::transaction_of;
 use crate::reaction::Move;
 use crate::reaction::first;
 use crate::reaction::goes;
@@ -12,81 +13,127 @@ use crate::state::Step;
 use crate::state::Stepped;
 use crate::string::ROOM;
 use crate::string::put_string;
-use journal::record::check;
+use journal::record::Extent;
+use journal::record::Located;
+use journal::record::Surveyed;
+use journal::record::survey;
 use line::Refusal;
 use line::Written;
 use reply::read;
 ghost use mathlib.Core.Bool.{true};
+ghost use mathlib.Core.List.{List};
 ghost use mathlib.Core.Path.{_≡_};
-ghost use Prim.Native.Nat.{_≤_};
-ghost use lib.ListN.{length};
-ghost use Rattle.line.specs.Answer.{done, mapDone, output, writtenAs};
+ghost use Prim.Native.Nat.{ℕ, _+_, _≤_};
+ghost use lib.ListN.{drop, length, take};
+ghost use Rattle.line.specs.Answer.{done, mapDone};
 ghost use Rattle.line.specs.Password.{passwordInRange};
-ghost use Rattle.journal.specs.Walk.{decode};
-ghost use Rattle.device.specs.Inner.{tested};
+ghost use Rattle.journal.specs.Survey.{surveyOf, surveyedAs};
+ghost use Rattle.device.specs.Inner.{Waits, extentFor, transactionOf};
 ghost use Rattle.device.specs.Reaction.{moveAs};
-ghost use Rattle.device.specs.Step.{Steps, answered, exists, sent, started, stepped};
+ghost use Rattle.device.specs.Step.{Steps, answered, sent, started, stepped, tested};
 ghost use Rattle.device.specs.declared.state.Step.the-variants as Variants;
 
 // The start of a call for a job, a journal lent at its exact length: the first string and state.
 pub fn start(settings: Settings, job: &[u8], out: &mut [u8]) -> Stepped
-    ensures { λ r. ⌜ Steps (started settings (now (job .entry)) (length (now (out .entry)))) Variants.Stopped r (now (out .entry)) (now (out .exit)) ⌝ }
+    ensures { λ r. ⌜
+        Steps (started settings (now (job .entry)) (length (now (out .entry))))
+        Variants.Stopped r (now (out .entry)) (now (out .exit))
+        ⌝ }
 {
-    let tested = test(settings, Step::Stopped, job, out.len());
-    match tested {
-        Written::Count(_) => send(settings, job, goes(Step::Opening(first())), out),
-        Written::Refused(_) => answer(tested, goes(Step::Stopped)),
+    match test(settings, Step::Stopped, job, out.len()) {
+        Surveyed::Found(found) => {
+            let here = found.here;
+            send(settings, part(job, here), goes(Step::Opening(first())), out)
+        }
+        Surveyed::Refused(refusal) => answer(Written::Refused(refusal), goes(Step::Stopped)),
     }
 }
 
 // What the device does with a reply as it came off the line; the empty string where nothing came.
 pub fn step(state: State, settings: Settings, job: &[u8], reply: &[u8], out: &mut [u8]) -> Stepped
-    ensures { λ r. ⌜ Steps (stepped state settings (now (job .entry)) (now (reply .entry)) (length (now (out .entry)))) (state .step) r (now (out .entry)) (now (out .exit)) ⌝ }
+    ensures { λ r. ⌜
+        Steps (stepped state settings (now (job .entry)) (now (reply .entry)) (length (now (out .entry))))
+        (state .step) r (now (out .entry)) (now (out .exit))
+        ⌝ }
 {
     let step = state.step;
-    let retries = settings.retries;
-    let tested = test(settings, step, job, out.len());
-    match tested {
-        Written::Count(count) => {
-            let next = moves(retries, job, count, step, read(reply));
-            send(settings, job, next, out)
+    match test(settings, step, job, out.len()) {
+        Surveyed::Found(found) => {
+            let count = found.count;
+            let here = found.here;
+            let next = moves(settings, count, part(job, here), step, read(reply));
+            let extent = extent_for(found, step, next);
+            send(settings, part(job, extent), next, out)
         }
-        Written::Refused(_) => answer(tested, goes(step)),
+        Surveyed::Refused(refusal) => answer(Written::Refused(refusal), goes(step)),
     }
 }
 
-// How many transactions the job has, or why the call is refused.
-fn test(settings: Settings, step: Step, job: &[u8], room: usize) -> Written
-    ensures { λ r. ⌜ writtenAs r ≡ mapDone length (tested settings step (now (job .entry)) room) ⌝ }
+// How many transactions the job has, and where the step's and the one behind it lie; or why the call
+// is refused. This is the one walk over the job.
+fn test(settings: Settings, step: Step, job: &[u8], room: usize) -> Surveyed
+    ensures { λ r. ⌜
+        surveyedAs r ≡ mapDone (surveyOf (transactionOf step)) (tested settings step (now (job .entry)) room)
+        ⌝ }
 {
-    let retries = settings.retries;
     if !settings_in_range(settings) {
-        return Written::Refused(Refusal::Range);
+        return Surveyed::Refused(Refusal::Range);
     }
-    if !step_in_range(retries, step) {
-        return Written::Refused(Refusal::Range);
+    if !step_in_range(settings, step) {
+        return Surveyed::Refused(Refusal::Range);
     }
     if room < ROOM {
-        return Written::Refused(Refusal::Size);
+        return Surveyed::Refused(Refusal::Size);
     }
-    let checked = check(job);
-    let Written::Count(count) = checked else {
-        return checked;
+    let surveyed = survey(job, transaction_of(step));
+    let Surveyed::Found(found) = surveyed else {
+        return surveyed;
     };
-    if !place_exists(job, count, step) {
-        return Written::Refused(Refusal::Range);
+    let count = found.count;
+    let extent = found.here;
+    if !place_exists(count, part(job, extent), step) {
+        return Surveyed::Refused(Refusal::Range);
     }
-    checked
+    surveyed
 }
 
-// A move, with the string of the step that it leads to.
-fn send(settings: Settings, job: &[u8], next: Move, out: &mut [u8]) -> Stepped
-    requires { ⌜ (passwordInRange (settings .password) ≡ true) × (exists (output (decode (now job))) (next .step) ≡ true) × (256 ≤ length (now out)) ⌝ }
-    ensures { λ r. ⌜ Steps (done (sent settings (output (decode (now (job .entry)))) (moveAs next))) Variants.Stopped r (now (out .entry)) (now (out .exit)) ⌝ }
+// The part of the job at an extent.
+fn part(job: &[u8], extent: Extent) -> &[u8]
+    requires { ⌜ extent .start + extent .length ≤ length (now job) ⌝ }
+    ensures { λ r. ⌜ now r ≡ take (extent .length) (drop (extent .start) (now (job .entry))) ⌝ }
 {
-    let password = settings.password;
-    let sending = next.step;
-    let n = put_string(job, password, sending, out);
+    let start = extent.start;
+    let end = start + extent.length;
+    &job[start..end]
+}
+
+// Where the transaction of the next step lies: the same, or the one behind it.
+fn extent_for(found: Located, step: Step, next: Move) -> Extent
+    ensures { λ r. ⌜ r ≡ extentFor found (transactionOf step) (transactionOf (next .step)) ⌝ }
+{
+    let from = transaction_of(step);
+    let following = next.step;
+    let to = transaction_of(following);
+    if to == from {
+        return found.here;
+    }
+    found.next
+}
+
+// A move, with the string of the step that it leads to, whose transaction has this information.
+fn send(settings: Settings, info: &[u8], next: Move, out: &mut [u8]) -> Stepped
+    requires { ⌜
+        (passwordInRange (settings .password) ≡ true)
+        × ((job : List (List ℕ)) × Waits settings job (next .step) (now info))
+        × (256 ≤ length (now out))
+        ⌝ }
+    ensures { λ r. ⌜
+        ((job : List (List ℕ)) → Waits settings job (next .step) (now (info .entry)) →
+        Steps (done (sent settings job (moveAs next))) Variants.Stopped r (now (out .entry)) (now (out .exit)))
+        ⌝ }
+{
+    let step = next.step;
+    let n = put_string(settings, info, step, out);
     answer(Written::Count(n), next)
 }
 

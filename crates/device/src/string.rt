@@ -1,8 +1,6 @@
 // The string that a step sends, with parity.
-use crate::state::Place;
+use crate::state::Settings;
 use crate::state::Step;
-use block::segmentation::write_segment;
-use journal::record::oldest;
 use line::Password;
 use line::Written;
 use line::character::CR;
@@ -10,33 +8,43 @@ use line::character::EOT;
 use line::character::ESC;
 use line::memory::copy;
 use line::parity::set_parity;
+use segmentation::write_segment;
 ghost use mathlib.Core.Bool.{true};
-ghost use mathlib.Core.List.{[], map};
+ghost use mathlib.Core.List.{List, map};
 ghost use mathlib.Core.Path.{_≡_};
-ghost use Prim.Native.Nat.{_≤_};
-ghost use lib.ListN.{getD, length};
-ghost use Rattle.line.specs.Answer.{Laid, output};
+ghost use Prim.Native.Nat.{ℕ, _≤_, _<_};
+ghost use lib.ListN.{length};
+ghost use Rattle.line.specs.Answer.{Laid};
 ghost use Rattle.line.specs.Character.{seven};
 ghost use Rattle.line.specs.Parity.{withParity};
 ghost use Rattle.line.specs.Password.{passwordInRange, passwordText};
 ghost use Rattle.line.specs.Test.{all};
-ghost use Rattle.block.specs.Segmentation.{segmentAt, segmentBlock};
-ghost use Rattle.journal.specs.Walk.{decode};
+ghost use Rattle.line.specs.Transaction.{legal};
+ghost use Rattle.block.specs.Segments.{segmentBlock};
+ghost use Rattle.segmentation.specs.Segmentation.{segmentAt, segmentation};
+ghost use Rattle.device.specs.Inner.{Waits};
 ghost use Rattle.device.specs.Reaction.{logonText, stringBytes};
-ghost use Rattle.device.specs.Step.{exists, somewhere};
 
 // Room for every string that the device sends.
 pub(crate) const ROOM: usize = 256;
 
-// The string of a step, at the start of the output.
-pub(crate) fn put_string(job: &[u8], password: Password, step: Step, out: &mut [u8]) -> usize
-    requires { ⌜ (passwordInRange password ≡ true) × (exists (output (decode (now job))) step ≡ true) × (256 ≤ length (now out)) ⌝ }
-    ensures { λ r. ⌜ Laid (stringBytes (output (decode (now (job .entry)))) (passwordText password) step) r (now (out .entry)) (now (out .exit)) ⌝ }
+// The string of a step, whose transaction has this information, at the start of the output.
+pub(crate) fn put_string(settings: Settings, info: &[u8], step: Step, out: &mut [u8]) -> usize
+    requires { ⌜
+        (passwordInRange (settings .password) ≡ true)
+        × ((job : List (List ℕ)) × Waits settings job step (now info))
+        × (256 ≤ length (now out))
+        ⌝ }
+    ensures { λ r. ⌜
+        ((job : List (List ℕ)) → Waits settings job step (now (info .entry)) →
+        Laid (stringBytes settings job step) r (now (out .entry)) (now (out .exit)))
+        ⌝ }
 {
+    let password = settings.password;
     match step {
         Step::Opening(_) => put_text(&[CR], out),
         Step::Logon(_) => put_logon(password, out),
-        Step::Sending(place) => put_segment(job, place, out),
+        Step::Sending(place) => put_segment(info, place.block, out),
         Step::Closing(_) => put_text(&[EOT, CR], out),
         Step::Stopped => 0,
     }
@@ -45,7 +53,9 @@ pub(crate) fn put_string(job: &[u8], password: Password, step: Step, out: &mut [
 // The logon.
 fn put_logon(password: Password, out: &mut [u8]) -> usize
     requires { ⌜ (passwordInRange password ≡ true) × (256 ≤ length (now out)) ⌝ }
-    ensures { λ r. ⌜ Laid (map withParity (logonText (passwordText password))) r (now (out .entry)) (now (out .exit)) ⌝ }
+    ensures { λ r. ⌜
+        Laid (map withParity (logonText (passwordText password))) r (now (out .entry)) (now (out .exit))
+        ⌝ }
 {
     let mut text = [0u8; ROOM];
     let n = write_logon(password, &mut text);
@@ -66,15 +76,19 @@ fn write_logon(password: Password, text: &mut [u8]) -> usize
     end + 1
 }
 
-// The block at a place in the job.
-fn put_segment(job: &[u8], place: Place, out: &mut [u8]) -> usize
-    requires { ⌜ (somewhere (output (decode (now job))) place ≡ true) × (256 ≤ length (now out)) ⌝ }
-    ensures { λ r. ⌜ Laid (map withParity (segmentBlock (segmentAt (getD (output (decode (now (job .entry)))) (place .transaction) []) (place .block)))) r (now (out .entry)) (now (out .exit)) ⌝ }
+// The block at an index of the transaction with this information.
+fn put_segment(info: &[u8], index: usize, out: &mut [u8]) -> usize
+    requires { ⌜
+        (legal (now info) ≡ true) × (index < length (segmentation (now info))) × (256 ≤ length (now out))
+        ⌝ }
+    ensures { λ r. ⌜
+        Laid (map withParity (segmentBlock (segmentAt (now (info .entry)) index)))
+        r (now (out .entry)) (now (out .exit))
+        ⌝ }
 {
-    let info = oldest(job, place.transaction);
     let mut text = [0u8; ROOM];
-    // Never refused: a transaction of the job is legal, and a block fits.
-    let Written::Count(n) = write_segment(info, place.block, &mut text) else {
+    // Never refused: the transaction is legal, and a block fits.
+    let Written::Count(n) = write_segment(info, index, &mut text) else {
         return 0;
     };
     put_text(&text[..n], out)

@@ -3,12 +3,12 @@ use mathlib.Core.Bool.{Bool, true, false}
 use mathlib.Core.List.{List, [], _∷_, _++_, append-assoc}
 use mathlib.Core.Option.{Option, none, some}
 use mathlib.Core.Path.{_≡_, refl, sym, ap, _∙_}
-use Prim.Native.Nat.{ℕ, zero, suc, _+_, _-_, _≤_}
+use Prim.Native.Nat.{ℕ, zero, suc, _+_, _-_, _≤_, _<_}
 use native.Mathlib.Numerals.{add-one}
 use native.Mathlib.Omega.{arith}
-use borrow.Author.Tests.{ltb-false, le-ltb}
+use borrow.Author.Tests.{ltb-false, le-ltb, eqb-true}
 use lib.Dec.{ltb, eqb, eqb·suc-zero}
-use lib.ListN.{length, take, drop, length-append, length-drop, take-append-drop}
+use lib.ListN.{length, getD, take, drop, length-append, length-drop, take-append-drop}
 use lib.Seq.{length-take-le, take-at, drop-at}
 use Rattle.line.specs.Answer.{Outcome, done, refused, mapDone, andThen}
 use Rattle.line.specs.Test.{if_then_else_}
@@ -16,9 +16,9 @@ use Rattle.line.specs.Transaction.{legal}
 use Rattle.journal.specs.declared.cursor.Place.{Place}
 use Rattle.journal.specs.declared.cursor.Position.{Position}
 use Rattle.journal.specs.Cursor.{transactionAt, walkFrom, handOn, handedOut}
-use Rattle.journal.specs.Walk.{Met, lastNumber, stepBack, walkBack, trailer, newestFirst, placeOf, stepFrom}
-use Rattle.journal.proofs.EncodingLaws.{trailer-parts}
-use Rattle.line.proofs.OutcomeLaws.{map-done, passed, held}
+use Rattle.journal.specs.Walk.{Met, lastNumber, stepBack, walkBack, trailer, newestFirst, placeOf, stepFrom, stepPast, cursorAt}
+use Rattle.journal.proofs.EncodingLaws.{trailer-parts, trailer-inside}
+use Rattle.line.proofs.OutcomeLaws.{then-done, map-done, passed, met}
 use Rattle.journal.proofs.RecordLaws.{step-parts, step-split}
 
 -- what one step back from within the bytes meets: the bytes before it, its transaction at its place, and two bytes more
@@ -85,7 +85,7 @@ step-place b p q h = by-left (p .left) (p .end) (ltb-false (length b) (p .end) (
   where
     by-left : (k e : ℕ) → e ≤ length b → stepFrom b (record { end = e; left = k }) ≡ done (some q) → Stepped b (record { end = e; left = k }) q
     by-left zero e i h =
-        let (_, r) = held (eqb e 0) _ _ _ (sym (step-end b e i) ∙ h) in
+        let (_, r) = met (eqb e 0) _ _ _ (sym (step-end b e i) ∙ h) in
         let z : _≡_ {A = ℕ} 0 1 = cc in
         absurd (omega arith)
     by-left (suc k) e i h =
@@ -93,6 +93,18 @@ step-place b p q h = by-left (p .left) (p .end) (ltb-false (length b) (p .end) (
         let (_, at, back, good) = met-at b e (suc k) m i met in
         let same : placeOf (suc k) m ≡ q = cc in
         rw (← same) (record { inside = i; left = omega arith; next = refl; back = back; good = rw at good })
+
+-- a step that hands out none: no record and no byte is left
+pub step-ends : (b : List ℕ) (p : Position) → stepFrom b p ≡ done none → (p .left ≡ 0) × (p .end ≡ 0)
+unfolding stepFrom
+step-ends b p h = by-left (p .left) (p .end) (ltb-false (length b) (p .end) (passed (ltb (length b) (p .end)) _ _ _ h .0)) h
+  where
+    by-left : (k e : ℕ) → e ≤ length b → stepFrom b (record { end = e; left = k }) ≡ done none → (k ≡ 0) × (e ≡ 0)
+    by-left zero e i h = (refl, eqb-true e 0 (met (eqb e 0) _ _ _ (sym (step-end b e i) ∙ h) .0))
+    by-left (suc k) e i h =
+        let (m, met, r) = map-done _ (stepBack (take e b)) none (sym (step-on b e k i) ∙ h) in
+        let z : _≡_ {A = ℕ} 0 1 = cc in
+        absurd (omega arith)
 
 -- where stepping on from the place that a step hands out gives what the walk gives, so does stepping from before it
 handed-step : (k : ℕ) (b : List ℕ) (p : Position) → p .end ≤ length b → ((q : Place) → Stepped b p q → handedOut k b (q .next) ≡ walkFrom b (q .next)) → handedOut (suc k) b p ≡ walkFrom b p
@@ -119,3 +131,55 @@ cursor-newest b = go (trailer b) refl
         let (_, _, size, e) = trailer-parts b p s in
         let end : lastNumber b ≡ p .end = ap (λ q. q .end) e in
         rw (add-one (p .left)) (handed-walk (p .left) b p refl (omega arith))
+
+-- where so many steps from a position lead
+unfoldable reached : ℕ → List ℕ → Position → Outcome (Option Place)
+reached zero b p = stepFrom b p
+reached (suc k) b p = andThen (reached k b p) (stepPast b)
+
+-- one step first, or last
+reached-shift : (k : ℕ) (b : List ℕ) (p : Position) (q : Place) → stepFrom b p ≡ done (some q) → reached (suc k) b p ≡ reached k b (q .next)
+unfolding reached
+reached-shift zero b p q e = rw e
+reached-shift (suc k) b p q e = ap (λ o. andThen o (stepPast b)) (reached-shift k b p q e)
+
+-- a cursor's steps are those from the trailer
+cursor-reached : (k : ℕ) (b : List ℕ) (p : Position) → trailer b ≡ done p → cursorAt b k ≡ reached k b p
+unfolding reached cursorAt
+cursor-reached zero b p e = rw e
+cursor-reached (suc k) b p e = ap (λ o. andThen o (stepPast b)) (cursor-reached k b p e)
+
+-- a walk that meets a transaction: its first step, and the rest of it
+walk-first : (b : List ℕ) (p : Position) (rs : List (List ℕ)) → p .end ≤ length b → walkFrom b p ≡ done rs → 0 < length rs →
+    (q : Place) × (us : List (List ℕ)) × (stepFrom b p ≡ done (some q)) × (walkFrom b (q .next) ≡ done us) × (transactionAt b q ∷ us ≡ rs)
+walk-first b p rs h w l = go (stepFrom b p) refl (sym (walk-from b p h) ∙ w)
+  where
+    go : (o : Outcome (Option Place)) → stepFrom b p ≡ o → andThen o (handOn b (walkFrom b)) ≡ done rs →
+        (q : Place) × (us : List (List ℕ)) × (stepFrom b p ≡ done (some q)) × (walkFrom b (q .next) ≡ done us) × (transactionAt b q ∷ us ≡ rs)
+    go (refused n) e w = let z : _≡_ {A = ℕ} 0 1 = cc in absurd (omega arith)
+    go (done none) e w =
+        let empty : rs ≡ [] = cc in
+        absurd (omega (arith, ap length empty))
+    go (done (some q)) e w =
+        let (us, walk, same) = map-done _ (walkFrom b (q .next)) rs w in
+        (q, us, e, walk, same)
+
+-- steps lead to the transaction that the walk meets after so many others
+reached-at : (k : ℕ) (b : List ℕ) (p : Position) (rs : List (List ℕ)) → p .end ≤ length b → walkFrom b p ≡ done rs → k < length rs →
+    (q : Place) × (reached k b p ≡ done (some q)) × (transactionAt b q ≡ getD rs k [])
+unfolding reached
+reached-at zero b p rs h w l =
+    let (q, us, e, _, same) = walk-first b p rs h w l in
+    (q, e, ap (λ ts. getD ts 0 []) same)
+reached-at (suc k) b p rs h w l =
+    let (q, us, e, walk, same) = walk-first b p rs h w (omega arith) in
+    let s = step-place b p q e in
+    let (r, there, holds) = reached-at k b (q .next) us (omega (arith, s .inside, s .back, s .next)) walk (omega (arith, ap length same)) in
+    (r, reached-shift k b p q e ∙ there, holds ∙ ap (λ ts. getD ts (suc k) []) same)
+
+-- after so many steps from the newest record a cursor stands at the record with that index from the newest
+pub cursor-at : (b : List ℕ) (rs : List (List ℕ)) (k : ℕ) → newestFirst b ≡ done rs → k < length rs → (q : Place) × (cursorAt b k ≡ done (some q)) × (transactionAt b q ≡ getD rs k [])
+cursor-at b rs k h l =
+    let (p, opened, walk) = then-done (trailer b) _ rs h in
+    let (q, there, holds) = reached-at k b p rs (trailer-inside b p opened) walk l in
+    (q, cursor-reached k b p opened ∙ there, holds)

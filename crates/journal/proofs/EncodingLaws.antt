@@ -58,6 +58,12 @@ trailer-parts b p h =
       cc,
     )
 
+-- the position of a trailer that is read lies in the journal
+pub trailer-inside : (b : List ℕ) (p : Position) → trailer b ≡ done p → p .end ≤ length b
+trailer-inside b p e =
+    let (_, _, size, same) = trailer-parts b p e in
+    rw (← same) (omega arith)
+
 -- bytes that are read newest first: their trailer, and the walk back from it
 pub newest-parts : (b : List ℕ) (rs : List (List ℕ)) → newestFirst b ≡ done rs →
     (lastNumber b ≤ 32000) × (length b ≡ lastNumber b + 4) × (length rs ≤ 64) × (length rs ≡ lastNumber (butLast 2 b)) × (walkBack (length rs) (take (lastNumber b) b) ≡ done rs)
@@ -84,7 +90,8 @@ unfolding encode
 encode-decode b ts a h =
     let (rs, newest, e) = map-done reverse (newestFirst b) ts h in
     let (small, size, few, count, walk) = newest-parts b rs newest in
-    let (bytes, good) = walk-bytes (length rs) (take (lastNumber b) b) rs (all-take byte (lastNumber b) b a) walk in
+    let bytes = walk-bytes (length rs) (take (lastNumber b) b) rs (all-take byte (lastNumber b) b a) walk in
+    let good = walk-legal (length rs) (take (lastNumber b) b) rs walk in
     let records : take (lastNumber b) b ≡ recordsOf ts = rw e at bytes in
     let end : lastNumber b ≡ length (recordsOf ts) = sym (length-take-le (lastNumber b) b (omega arith)) ∙ ap length records in
     let same : length rs ≡ length ts = sym (length-reverse rs) ∙ ap length e in

@@ -1,10 +1,9 @@
-pub mod ListLaws
 pub mod NumberLaws
 pub mod RecordLaws
 pub mod WalkLaws
 pub mod EncodingLaws
-pub mod AppendLaws
 pub mod CursorLaws
 pub mod StepLaws
+pub mod SurveyLaws
 pub mod ReadLaws
-pub mod WriteLaws
+pub mod StorageLaws

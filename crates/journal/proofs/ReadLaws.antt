@@ -1,134 +1,97 @@
--- A journal read record by record: a loop that counts them, one that looks for one of them, and what either end's reader makes of it.
-use mathlib.Core.List.{List, [], _∷_, reverse}
-use mathlib.Core.Option.{Option, none, some}
-use mathlib.Core.Path.{_≡_, refl, sym, ap, _∙_}
-use Prim.Native.Nat.{ℕ, suc, _+_, _-_, _≤_, _<_}
+-- What the readers make of a survey: the count, and the record at an index from either end, with the place where it lies.
+use mathlib.Core.List.{List, [], reverse}
+use mathlib.Core.Path.{_≡_, refl, sym, ap, subst, _∙_}
+use Prim.Native.Nat.{ℕ, _+_, _-_, _≤_, _<_}
 use native.Mathlib.Omega.{arith}
-use lib.ListN.{length, getD, length-reverse, List·getD-eq-default}
-use Rattle.line.specs.Answer.{Outcome, done, refused, mapDone, andThen, output}
-use Rattle.journal.specs.Cursor.{transactionAt, walkFrom, handOn}
-use Rattle.journal.specs.Walk.{trailer, newestFirst, decode, stepFrom}
-use Rattle.journal.specs.declared.cursor.Place.{Place}
+use lib.ListN.{length, take, drop, getD, length-reverse, List·getD-eq-default}
+use Rattle.line.specs.Answer.{Outcome, done, refused, mapDone, output}
+use Rattle.line.proofs.ListLaws.{getD-reverse}
+use Rattle.line.proofs.OutcomeLaws.{then-done, map-done}
+use Rattle.journal.specs.Survey.{surveyOf, Lies, HandedOldest, HandedNewest}
+use Rattle.journal.specs.Walk.{trailer, newestFirst, decode}
 use Rattle.journal.specs.declared.cursor.Position.{Position}
-use Rattle.journal.proofs.CursorLaws.{walk-from, step-place}
-use Rattle.journal.proofs.EncodingLaws.{trailer-parts}
-use Rattle.journal.proofs.ListLaws.{getD-reverse}
-use Rattle.line.proofs.OutcomeLaws.{map-done}
+use Rattle.journal.specs.declared.record.Located.{Located}
+use Rattle.journal.proofs.SurveyLaws.{lies-at}
 use Rattle.journal.proofs.WalkLaws.{walk-length}
 
--- nothing is counted yet
-pub counted-none : (o : Outcome ℕ) → o ≡ mapDone (λ k. 0 + k) o
-counted-none (done n) = ap done (omega arith)
-counted-none (refused k) = refl
+-- a survey that found records: its count is theirs, and its extent is where the record at the index lies
+module _ (b : List ℕ) (i : ℕ) (found : Located) (e : mapDone (surveyOf i) (decode b) ≡ done found) where
+  -- what was read
+  made : (ts : List (List ℕ)) × (decode b ≡ done ts) × (surveyOf i ts ≡ found)
+  made = map-done (surveyOf i) (decode b) found e
 
--- a loop counts the records of a walk: those counted so far and those that the walk from the position reached meets are all
-module _ (b : List ℕ) (p : Position) (h : p .end ≤ length b) (n : ℕ) (total : Outcome ℕ) (inv : total ≡ mapDone (λ k. n + k) (mapDone length (walkFrom b p))) where
-  -- one record more
-  pub counted-next : (q : Place) → stepFrom b p ≡ done (some q) → total ≡ mapDone (λ k. n + 1 + k) (mapDone length (walkFrom b (q .next)))
-  counted-next q e = inv ∙ rw (walk-from b p h, e) (go (walkFrom b (q .next)))
-    where
-      go : (w : Outcome (List (List ℕ))) → mapDone (λ k. n + k) (mapDone length (mapDone (λ ts. transactionAt b q ∷ ts) w)) ≡ mapDone (λ k. n + 1 + k) (mapDone length w)
-      go (done ts) = ap done (omega arith)
-      go (refused k) = refl
+  -- the count
+  pub survey-count : done (found .count) ≡ mapDone length (decode b)
+  survey-count = ap (λ (f : Located). done (f .count)) (sym (made .2)) ∙ sym (ap (mapDone length) (made .1))
 
-  -- all are counted
-  pub counted-all : stepFrom b p ≡ done none → done n ≡ total
-  counted-all e =
-      let none-more : n + 0 ≡ n = omega arith in
-      sym (inv ∙ rw (walk-from b p h, e, none-more))
+  -- the record at the index lies there
+  pub survey-lies : Lies b (found .here) (getD (output (decode b)) i [])
+  survey-lies =
+      let (ts, read, same) = made in
+      subst (λ (f : Located). Lies b (f .here) (getD (output (decode b)) i [])) same (rw read (lies-at b ts read i))
 
-  -- the bytes are not well formed
-  pub counted-refused : (k : ℕ) → stepFrom b p ≡ refused k → refused k ≡ total
-  counted-refused k e = sym (inv ∙ rw (walk-from b p h, e))
+  -- the part there is handed back
+  pub survey-hands : {journal part : ℕ × ℕ} → part ≡ (journal .0, journal .1 + found .here .start) →
+      HandedOldest b i journal (take (found .here .length) (drop (found .here .start) b)) part
+  survey-hands {journal} p =
+      record {
+        holds = survey-lies .holds;
+        lies = λ ts read _.
+            let same : surveyOf i ts ≡ found = cc in
+            p ∙ ap (λ (f : Located). (journal .0, journal .1 + f .here .start)) (sym same);
+      }
 
--- a loop looks for the record at an index of a walk: it is the one at what is left of the index in the walk from the position reached
-module _ (b : List ℕ) (p : Position) (h : p .end ≤ length b) (i : ℕ) (sought : List ℕ) (inv : sought ≡ getD (output (walkFrom b p)) i []) where
-  -- another record is met first
-  pub sought-next : (q : Place) → stepFrom b p ≡ done (some q) → (i ≡ 0 → ⊥) → sought ≡ getD (output (walkFrom b (q .next))) (i - 1) []
-  sought-next q e ne =
-      let more : i ≡ suc (i - 1) = omega arith in
-      inv ∙ ap (λ k. getD (output (walkFrom b p)) k []) more ∙ rw (walk-from b p h, e) (go (walkFrom b (q .next)))
-    where
-      go : (w : Outcome (List (List ℕ))) → getD (output (mapDone (λ ts. transactionAt b q ∷ ts) w)) (suc (i - 1)) [] ≡ getD (output w) (i - 1) []
-      go (done ts) = refl
-      go (refused k) = refl
+-- a journal that is not read hands nothing back, wherever that lies
+pub refused-oldest : (b : List ℕ) (i k : ℕ) {journal part : ℕ × ℕ} → decode b ≡ refused k → HandedOldest b i journal [] part
+refused-oldest b i k e = record { holds = rw e; lies = λ ts read _. let z : _≡_ {A = ℕ} 0 1 = cc in absurd (omega arith) }
 
-  -- this is the record, where the walk is well formed
-  pub sought-here : (q : Place) → stepFrom b p ≡ done (some q) → i ≡ 0 → (n : ℕ) → mapDone length (walkFrom b p) ≡ done n → transactionAt b q ≡ sought
-  sought-here q e z n whole = sym (inv ∙ rw (z, walk-from b p h, e) (go (walkFrom b (q .next)) (rw (walk-from b p h, e) at whole)))
-    where
-      go : (w : Outcome (List (List ℕ))) → mapDone length (mapDone (λ ts. transactionAt b q ∷ ts) w) ≡ done n →
-          getD (output (mapDone (λ ts. transactionAt b q ∷ ts) w)) 0 [] ≡ transactionAt b q
-      go (done ts) e = refl
-      go (refused k) e = cc
+-- nor from its newest
+refused-newest : (b : List ℕ) (i k : ℕ) {journal part : ℕ × ℕ} → newestFirst b ≡ refused k → HandedNewest b i journal [] part
+refused-newest b i k e =
+    record { holds = rw e; lies = λ ts read _. let z : _≡_ {A = ℕ} 0 1 = cc (ap (mapDone reverse) e) in absurd (omega arith) }
 
-  -- there is none
-  pub sought-none : (o : Outcome (Option Place)) → stepFrom b p ≡ o → output (andThen o (handOn b (walkFrom b))) ≡ [] → [] ≡ sought
-  sought-none o e f = sym (inv ∙ rw (walk-from b p h, e, f))
+-- nor does one that is not opened
+pub unopened-newest : (b : List ℕ) (i k : ℕ) {journal part : ℕ × ℕ} → trailer b ≡ refused k → HandedNewest b i journal [] part
+unopened-newest b i k e = refused-newest b i k (rw e)
 
--- where a walk is well formed, so is the rest of it after a step
-pub whole-next : (b : List ℕ) (p : Position) (h : p .end ≤ length b) (q : Place) → stepFrom b p ≡ done (some q) → mapDone length (walkFrom b p) ≡ done (p .left) →
-    mapDone length (walkFrom b (q .next)) ≡ done (q .next .left)
-whole-next b p h q e whole = go (walkFrom b (q .next)) (rw (walk-from b p h, e) at whole)
-  where
-    fewer : p .left ≡ suc (q .next .left)
-    fewer = omega (arith, step-place b p q e .left)
+-- a journal that is opened has as many records as its trailer says, where it is well formed
+opened-length : (b : List ℕ) (p : Position) (rs : List (List ℕ)) → trailer b ≡ done p → newestFirst b ≡ done rs → length rs ≡ p .left
+opened-length b p rs o e =
+    let (q, opened, walk) = then-done (trailer b) _ rs e in
+    let same : q ≡ p = cc in
+    rw (← same) (walk-length (q .left) _ rs walk)
 
-    go : (w : Outcome (List (List ℕ))) → mapDone length (mapDone (λ ts. transactionAt b q ∷ ts) w) ≡ done (p .left) → mapDone length w ≡ done (q .next .left)
-    go (done ts) e = let f = fewer in cc
-    go (refused k) e = cc
-
--- the number of records is the same from either end
-decode-count : (b : List ℕ) → mapDone length (decode b) ≡ mapDone length (newestFirst b)
-decode-count b = go (newestFirst b)
-  where
-    go : (o : Outcome (List (List ℕ))) → mapDone length (mapDone reverse o) ≡ mapDone length o
-    go (done ts) = rw length-reverse
-    go (refused k) = refl
-
--- the trailer's position lies in the journal
-pub trailer-inside : (b : List ℕ) (p : Position) → trailer b ≡ done p → p .end ≤ length b
-trailer-inside b p e =
-    let (_, _, size, same) = trailer-parts b p e in
-    rw (← same) (omega arith)
-
--- a journal that is opened: the walk from its trailer reads it
-pub opened-newest : (b : List ℕ) (p : Position) → trailer b ≡ done p → newestFirst b ≡ walkFrom b p
-opened-newest b p e = rw e
-
--- its records are those that the walk counts
-pub opened-count : (b : List ℕ) (p : Position) → trailer b ≡ done p → mapDone length (walkFrom b p) ≡ mapDone length (decode b)
-opened-count b p e = sym (decode-count b ∙ ap (mapDone length) (opened-newest b p e))
-
--- a journal that is not opened
-pub unopened-count : (b : List ℕ) (k : ℕ) → trailer b ≡ refused k → refused k ≡ mapDone length (decode b)
-unopened-count b k e = rw e
-
--- a journal that is counted is well formed from its trailer on
-pub opened-whole : (b : List ℕ) (p : Position) (n : ℕ) → trailer b ≡ done p → mapDone length (decode b) ≡ done n → mapDone length (walkFrom b p) ≡ done (p .left)
-opened-whole b p n e c =
-    let (rs, walk, _) = map-done length (walkFrom b p) n (opened-count b p e ∙ c) in
-    ap (mapDone length) walk ∙ ap done (walk-length (p .left) _ rs walk)
-
--- what a journal that is refused puts out
-pub refused-output : (b : List ℕ) (k : ℕ) → mapDone length (decode b) ≡ refused k → (output (newestFirst b) ≡ []) × (output (decode b) ≡ [])
-refused-output b k = go (newestFirst b)
-  where
-    go : (o : Outcome (List (List ℕ))) → mapDone length (mapDone reverse o) ≡ refused k → (output o ≡ []) × (output (mapDone reverse o) ≡ [])
-    go (done ts) e = (cc, cc)
-    go (refused j) e = (refl, refl)
-
--- the record at an index from the oldest, past their end and before it
-module _ (b : List ℕ) (n i : ℕ) (count : mapDone length (decode b) ≡ done n) where
+-- the record at an index from the newest, of a journal that is opened
+module _ (b : List ℕ) (p : Position) (i : ℕ) {journal part : ℕ × ℕ} (opened : trailer b ≡ done p) where
   -- there are too few
-  pub oldest-past : n ≤ i → [] ≡ getD (output (decode b)) i []
-  oldest-past h =
-      let (ts, e, l) = map-done length (decode b) n count in
-      sym (rw e (List·getD-eq-default ts [] (omega arith)))
+  pub newest-past : p .left ≤ i → HandedNewest b i journal [] part
+  newest-past h = go (newestFirst b) refl
+    where
+      go : (o : Outcome (List (List ℕ))) → newestFirst b ≡ o → HandedNewest b i journal [] part
+      go (refused k) e = refused-newest b i k e
+      go (done rs) e =
+          let many = opened-length b p rs opened e in
+          record {
+            holds = rw e (sym (List·getD-eq-default rs [] (omega arith)));
+            lies = λ ts read l.
+                let same : reverse rs ≡ ts = cc (ap (mapDone reverse) e) in
+                absurd (omega (arith, ap length same, length-reverse rs));
+          }
 
-  -- it is the record at the index from the other end
-  pub oldest-newest : i < n → getD (output (newestFirst b)) (n - 1 - i) [] ≡ getD (output (decode b)) i []
-  oldest-newest h =
-      let (rs, e, l) = map-done length (newestFirst b) n (sym (decode-count b) ∙ count) in
-      let place : n - 1 - i ≡ length rs - 1 - i = omega arith in
-      rw (e, place) (sym (getD-reverse rs i [] (omega arith)))
+  -- it is the one as far from the oldest
+  pub newest-oldest : {info : List ℕ} → i < p .left → HandedOldest b (p .left - 1 - i) journal info part → HandedNewest b i journal info part
+  newest-oldest {info} h d = go (newestFirst b) refl
+    where
+      go : (o : Outcome (List (List ℕ))) → newestFirst b ≡ o → HandedNewest b i journal info part
+      go (refused k) e =
+          record { holds = d .holds ∙ rw e; lies = λ ts read _. let z : _≡_ {A = ℕ} 0 1 = cc (ap (mapDone reverse) e) in absurd (omega arith) }
+      go (done rs) e =
+          let many = opened-length b p rs opened e in
+          let place : length rs - 1 - (p .left - 1 - i) ≡ i = omega arith in
+          record {
+            holds = d .holds ∙ rw e (getD-reverse rs (p .left - 1 - i) [] (omega arith) ∙ rw place);
+            lies = λ ts read l.
+                let same : reverse rs ≡ ts = cc (ap (mapDone reverse) e) in
+                let count : p .left ≡ length ts = sym many ∙ sym (length-reverse rs) ∙ ap length same in
+                rw (← count) (d .lies ts read (omega arith));
+          }

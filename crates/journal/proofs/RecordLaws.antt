@@ -29,6 +29,10 @@ unfolding recordsOf
 records-snoc [] t = append-nil (recordOf t)
 records-snoc (s ∷ ts) t = rw (records-snoc ts t, append-assoc)
 
+-- and makes them longer by the transaction and two bytes
+pub records-length-snoc : (ts : List (List ℕ)) (t : List ℕ) → length (recordsOf (ts ++ t ∷ [])) ≡ length (recordsOf ts) + (length t + 2)
+records-length-snoc ts t = rw (records-snoc ts t, length-append (recordsOf ts) (recordOf t), record-length t)
+
 -- lists of transactions joined are legal where each is
 pub legal-append : (ts us : List (List ℕ)) → allLegal ts ≡ true → allLegal us ≡ true → allLegal (ts ++ us) ≡ true
 unfolding allLegal
@@ -83,14 +87,14 @@ step-split b m h =
     let whole : b ≡ take k b ++ (lastInformation b ++ two) = sym (take-append-drop (length b - 2) b) ∙ ap (λ f. f ++ two) (sym joined) ∙ append-assoc (take k b) (lastInformation b) two in
     rw (← e) (whole, size, good)
 
--- what a step back meets is a record, and a legal one
-pub step-record : (b : List ℕ) (m : Met) → all byte b ≡ true → stepBack b ≡ done m → (b ≡ m .before ++ recordOf (m .transaction)) × (legal (m .transaction) ≡ true)
+-- what a step back meets is a record
+pub step-record : (b : List ℕ) (m : Met) → all byte b ≡ true → stepBack b ≡ done m → b ≡ m .before ++ recordOf (m .transaction)
 unfolding recordOf
 step-record b m a h =
     let (fits, _, _) = step-parts b m h in
-    let (whole, size, good) = step-split b m h in
+    let (whole, size, _) = step-split b m h in
     let number : drop (length b - 2) b ≡ twoBytes (length (m .transaction)) = number-bytes b a (omega arith) ∙ ap twoBytes (sym size) in
-    (whole ∙ ap (λ d. m .before ++ (m .transaction ++ d)) number, good)
+    whole ∙ ap (λ d. m .before ++ (m .transaction ++ d)) number
 
 -- where all are legal, each is
 pub legal-at : (ts : List (List ℕ)) (i : ℕ) → allLegal ts ≡ true → i < length ts → legal (getD ts i []) ≡ true

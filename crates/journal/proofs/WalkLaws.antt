@@ -12,9 +12,9 @@ use Rattle.line.specs.Test.{all}
 use Rattle.line.specs.Transaction.{legal}
 use Rattle.journal.specs.Encoding.{recordOf, recordsOf, allLegal}
 use Rattle.journal.specs.Walk.{Met, stepBack, walkBack}
-use Rattle.journal.proofs.ListLaws.{length-none}
 use Rattle.line.proofs.AllLaws.{all-front}
-use Rattle.line.proofs.OutcomeLaws.{then-done, map-done, held}
+use Rattle.line.proofs.ListLaws.{length-none}
+use Rattle.line.proofs.OutcomeLaws.{then-done, map-done, met}
 use Rattle.journal.proofs.RecordLaws.{records-snoc, legal-append, step-back, step-record, step-split}
 
 -- transactions are legal the other way round too
@@ -41,7 +41,7 @@ walk-records ts h = rw (reverse-reverse ts, length-reverse ts) at (walk-reversed
 walk-end : (b : List ℕ) (rs : List (List ℕ)) → walkBack zero b ≡ done rs → (b ≡ []) × (rs ≡ [])
 unfolding walkBack
 walk-end b rs h =
-    let (none, e) = held (eqb (length b) 0) _ _ _ h in
+    let (none, e) = met (eqb (length b) 0) _ _ _ h in
     (length-none b (eqb-true (length b) 0 none), cc)
 
 -- a walk's first step, and the rest of it
@@ -60,29 +60,23 @@ walk-length (suc k) b rs h =
     let (m, us, step, rest, e) = walk-step k b rs h in
     rw (← e, walk-length k (m .before) us rest)
 
--- what a walk gives is legal, and the bytes are its records
-pub walk-bytes : (k : ℕ) (b : List ℕ) (rs : List (List ℕ)) → all byte b ≡ true → walkBack k b ≡ done rs → (b ≡ recordsOf (reverse rs)) × (allLegal rs ≡ true)
-unfolding recordsOf allLegal
+-- what a walk gives is legal
+pub walk-legal : (k : ℕ) (b : List ℕ) (rs : List (List ℕ)) → walkBack k b ≡ done rs → allLegal rs ≡ true
+unfolding allLegal
+walk-legal zero b rs h = rw (walk-end b rs h .1)
+walk-legal (suc k) b rs h =
+    let (m, us, step, rest, e) = walk-step k b rs h in
+    rw (← e, step-split b m step .2, walk-legal k (m .before) us rest)
+
+-- the bytes that are walked over are its records
+pub walk-bytes : (k : ℕ) (b : List ℕ) (rs : List (List ℕ)) → all byte b ≡ true → walkBack k b ≡ done rs → b ≡ recordsOf (reverse rs)
+unfolding recordsOf
 walk-bytes zero b rs a h =
     let (none, e) = walk-end b rs h in
-    rw (none, e) (refl, refl)
+    rw (none, e)
 walk-bytes (suc k) b rs a h =
     let (m, us, step, rest, e) = walk-step k b rs h in
-    let (whole, good) = step-record b m a step in
+    let whole = step-record b m a step in
     let t : List ℕ = m .transaction in
-    let (front, legals) = walk-bytes k (m .before) us (all-front byte (m .before) (recordOf t) (rw whole at a)) rest in
-    let bytes : b ≡ recordsOf (reverse (t ∷ us)) = rw (reverse-cons t us, records-snoc (reverse us) t, ← front) whole in
-    rw (← e) (bytes, rw (good, legals))
-
--- what a walk back gives is legal, whatever the bytes are
-pub walk-legal : (k : ℕ) (b : List ℕ) (rs : List (List ℕ)) → walkBack k b ≡ done rs → allLegal rs ≡ true
-unfolding walkBack allLegal
-walk-legal zero b rs h =
-    let (_, e) = held (eqb (length b) 0) _ _ _ h in
-    let none : rs ≡ [] = cc in
-    rw none
-walk-legal (suc k) b rs h =
-    let (m, step, r) = then-done (stepBack b) _ rs h in
-    let (us, rest, e) = map-done _ (walkBack k (m .before)) rs r in
-    let (_, _, good) = step-split b m step in
-    rw (← e, good, walk-legal k (m .before) us rest)
+    let front = walk-bytes k (m .before) us (all-front byte (m .before) (recordOf t) (rw whole at a)) rest in
+    rw (← e, reverse-cons t us, records-snoc (reverse us) t, ← front) whole

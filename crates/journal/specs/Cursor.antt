@@ -8,7 +8,7 @@ use Rattle.journal.specs.declared.cursor.Place.{Place}
 use Rattle.journal.specs.declared.cursor.Position.{Position}
 use Rattle.journal.specs.Walk.{walkBack, stepFrom}
 
--- the transaction at a place in the bytes
+-- the transaction at a place in the bytes (R-9.8)
 abbrev pub transactionAt : List ℕ → Place → List ℕ
 transactionAt b p = take (p .length) (drop (p .start) b)
 
@@ -21,7 +21,7 @@ abbrev pub handOn : List ℕ → (Position → Outcome (List (List ℕ))) → Op
 handOn b rest none = done []
 handOn b rest (some p) = mapDone (λ ts. transactionAt b p ∷ ts) (rest (p .next))
 
--- the transactions that stepping from a position hands out until the end, newest first: 7 where so many steps do not reach it
+-- the transactions that stepping from a position hands out until the end, newest first: 7 where so many steps do not reach it (R-9.8)
 unfoldable pub handedOut : ℕ → List ℕ → Position → Outcome (List (List ℕ))
 handedOut zero b p = refused 7
 handedOut (suc k) b p = andThen (stepFrom b p) (handOn b (handedOut k b))

@@ -1,4 +1,5 @@
 pub mod Encoding
 pub mod Walk
-pub mod Append
+pub mod Storage
+pub mod Survey
 pub mod Cursor

@@ -32,19 +32,19 @@ pub record Met : Type 0 where
 abbrev pub lastInformation : List ℕ → List ℕ
 lastInformation b = drop (length b - (lastNumber b + 2)) (butLast 2 b)
 
--- one step back from the end of the records: 7 where it leaves the journal or meets an illegal transaction
+-- one step back from the end of the records: 7 where it leaves the journal or meets an illegal transaction (R-9.2)
 unfoldable pub stepBack : List ℕ → Outcome Met
 stepBack b =
     if ltb (length b) (lastNumber b + 2) then refused 7
     else if not (legal (lastInformation b)) then refused 7
     else done (record { transaction = lastInformation b; before = butLast (lastNumber b + 2) b })
 
--- so many steps back, that meet exactly these bytes: the transactions, newest first
+-- so many steps back, that meet exactly these bytes: the transactions, newest first (R-9.2)
 unfoldable pub walkBack : ℕ → List ℕ → Outcome (List (List ℕ))
 walkBack zero b = if eqb (length b) 0 then done [] else refused 7
 walkBack (suc k) b = andThen (stepBack b) (λ m. mapDone (λ ts. m .transaction ∷ ts) (walkBack k (m .before)))
 
--- where the walk starts: the end of the records and their number, as the trailer has them. 7 where it is past the limits or disagrees with the length
+-- where the walk starts: the end of the records and their number, as the trailer has them. 7 where it is past the limits or disagrees with the length (R-9.2)
 unfoldable pub trailer : List ℕ → Outcome Position
 trailer b =
     if ltb (length b) 4 then refused 7
@@ -53,11 +53,11 @@ trailer b =
     else if not (eqb (length b) (lastNumber b + 4)) then refused 7
     else done (record { end = lastNumber b; left = lastNumber (butLast 2 b) })
 
--- the transactions that the bytes of a journal hold, newest first: 7 where they are not well formed
+-- the transactions that the bytes of a journal hold, newest first: 7 where they are not well formed (R-9.2)
 abbrev pub newestFirst : List ℕ → Outcome (List (List ℕ))
 newestFirst b = andThen (trailer b) (λ p. walkBack (p .left) (take (p .end) b))
 
--- the same, oldest first
+-- the same, oldest first (R-9.2)
 abbrev pub decode : List ℕ → Outcome (List (List ℕ))
 decode b = mapDone reverse (newestFirst b)
 
@@ -74,7 +74,7 @@ stepAs (Stepping.Record p) = done (some p)
 stepAs Stepping.End = done none
 stepAs (Stepping.Refused r) = refused (refusalNumber r)
 
--- the place of a record that was met, and the position behind it
+-- the place of a record that was met, and the position behind it (R-9.8)
 abbrev pub placeOf : ℕ → Met → Place
 placeOf left m =
     record {
@@ -83,9 +83,27 @@ placeOf left m =
       next = record { end = length (m .before); left = left - 1 };
     }
 
--- a step from a position: 9 where it lies outside the bytes; at the end all bytes are met, else 7; 7 too as one step back has it
+-- a step from a position: 9 where it lies outside the bytes; at the end all bytes are met, else 7; 7 too as one step back has it (R-9.8)
 unfoldable pub stepFrom : List ℕ → Position → Outcome (Option Place)
 stepFrom b p =
     if ltb (length b) (p .end) then refused 9
     else if eqb (p .left) 0 then (if eqb (p .end) 0 then done none else refused 7)
     else mapDone (λ m. some (placeOf (p .left) m)) (stepBack (take (p .end) b))
+
+-- where a cursor stands at first: at the newest record, by the trailer (R-9.8)
+abbrev pub firstStep : List ℕ → Outcome (Option Place)
+firstStep b = andThen (trailer b) (stepFrom b)
+
+-- the step on from a place that was found; from the end there is none (R-9.8)
+abbrev pub stepPast : List ℕ → Option Place → Outcome (Option Place)
+stepPast b none = done none
+stepPast b (some p) = stepFrom b (p .next)
+
+-- where a cursor stands after a step on from where it stands; a refusal stands (R-9.8)
+abbrev pub stepOn : List ℕ → Step → Outcome (Option Place)
+stepOn b at = andThen (stepAs at) (stepPast b)
+
+-- where a cursor stands after so many steps from the newest record (R-9.8)
+unfoldable pub cursorAt : List ℕ → ℕ → Outcome (Option Place)
+cursorAt b zero = firstStep b
+cursorAt b (suc k) = andThen (cursorAt b k) (stepPast b)

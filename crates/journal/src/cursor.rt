@@ -1,13 +1,11 @@
 // Walking back through a journal's records, newest first: a position by value and a step.
 use line::Refusal;
-use line::Written;
-use line::transaction::check_transaction;
+use line::transaction::is_legal;
 ghost use mathlib.Core.Option.{some};
 ghost use mathlib.Core.Path.{_≡_};
 ghost use Prim.Native.Nat.{_+_, _*_, _≤_};
 ghost use lib.ListN.{getD, length, take};
 ghost use Rattle.line.specs.Answer.{mapDone};
-ghost use Rattle.line.specs.Transaction.{legal};
 ghost use Rattle.journal.specs.Walk.{openedAs, placeOf, stepAs, stepBack, stepFrom, trailer};
 
 // Where a walk stands: the end of the records that are left, and how many these are.
@@ -91,7 +89,10 @@ pub fn step_back(journal: &[u8], position: Position) -> Step
 // The record that ends there.
 fn record_before(journal: &[u8], end: usize, left: usize) -> Step
     requires { ⌜ (end ≤ length (now journal)) × (1 ≤ left) ⌝ }
-    ensures { λ r. ⌜ stepAs r ≡ mapDone (λ m. some (placeOf left m)) (stepBack (take end (now (journal .entry)))) ⌝ }
+    ensures { λ r. ⌜
+        stepAs r ≡
+        mapDone (λ m. some (placeOf left m)) (stepBack (take end (now (journal .entry))))
+        ⌝ }
 {
     if end < LENGTH {
         return Step::Refused(Refusal::Journal);
@@ -114,17 +115,6 @@ fn record_before(journal: &[u8], end: usize, left: usize) -> Step
         length: n,
         next,
     })
-}
-
-// The information is a legal transaction.
-fn is_legal(info: &[u8]) -> bool
-    ensures { λ r. ⌜ r ≡ legal (now (info .entry)) ⌝ }
-{
-    let checked = check_transaction(info);
-    match checked {
-        Written::Count(_) => true,
-        Written::Refused(_) => false,
-    }
 }
 
 // A number in two bytes, high first.

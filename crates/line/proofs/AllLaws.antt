@@ -1,37 +1,30 @@
 -- Laws of `all`, the test of every member of a list: as a loop makes it, over an append, at a member, from one test to a weaker one, and over a map.
--- And of `same`, which decides that two lists are equal, and `before`, the place of a member.
-use mathlib.Core.Bool.{Bool, true, false, _&&_, false≢true, and-assoc, and-eq-true-iff, and-false}
+use mathlib.Core.Bool.{Bool, true, false, _&&_, false≢true, and-assoc, and-eq-true-iff, and-false, and-true}
 use mathlib.Core.List.{List, [], _∷_, _++_, map}
 use mathlib.Core.Path.{_≡_, refl, sym, _∙_}
 use Prim.Native.Nat.{ℕ, zero, suc, _+_, _≤_, _<_}
 use native.Mathlib.Nat.{not-suc-le-zero, le-of-suc-le-suc}
 use native.Mathlib.Numerals.{add-one}
 use native.Mathlib.Omega.{arith}
-use lib.ListN.{length, getD, take, drop, drop-of-length-le, length-drop, take-append-drop}
+use lib.ListN.{length, getD, take, drop, drop-of-length-le, take-append-drop}
 use lib.Seq.{drop-cons}
-use borrow.Author.Tests.{eqb-true, eq-eqb, ne-eqb, leb-true, leb-false, ltb-false, lt-leb, lt-ltb}
-use lib.Dec.{eqb, leb}
-use Rattle.line.specs.Test.{all, same, before, if_then_else_}
+use borrow.Author.Tests.{ltb-false, lt-leb, lt-ltb}
+use Rattle.line.specs.Test.{all}
 use Rattle.line.specs.Character.{seven, alphanumeric, byte}
 use mir.Syntax.{w8}
 use mir.Val.{Fits}
 
--- a loop that has passed the members below i: the rest decides
-module _ (p : ℕ → Bool) (xs : List ℕ) (i : ℕ) (rest : all p xs ≡ all p (drop i xs)) where
-  -- the member at i passes: the rest behind it decides
-  pub all-passed : p (getD xs i 0) ≡ true → i < length xs → all p xs ≡ all p (drop (i + 1) xs)
+-- a loop that folds the test of the members below i into one answer
+module _ (p : ℕ → Bool) (xs : List ℕ) (i : ℕ) (ok : Bool) (rest : all p xs ≡ (ok && all p (drop i xs))) where
+  -- the member at i is folded in
+  pub all-folded : i < length xs → all p xs ≡ ((ok && p (getD xs i 0)) && all p (drop (i + 1) xs))
   unfolding all
-  all-passed e h = rest ∙ rw (add-one, drop-cons xs i 0 h, e)
-
-  -- the member at i fails: so does the test
-  pub all-failed : p (getD xs i 0) ≡ false → i < length xs → false ≡ all p xs
-  unfolding all
-  all-failed e h = sym (rest ∙ rw (drop-cons xs i 0 h, e))
+  all-folded h = rest ∙ rw (add-one, drop-cons xs i 0 h, and-assoc)
 
   -- none is left
-  pub all-ended : length xs ≤ i → true ≡ all p xs
+  pub all-ended-folded : length xs ≤ i → ok ≡ all p xs
   unfolding all
-  all-ended h = sym (rest ∙ rw (drop-of-length-le xs h))
+  all-ended-folded h = sym (rest ∙ rw (drop-of-length-le xs h, and-true))
 
 -- two lists joined pass where each does
 pub all-append : (p : ℕ → Bool) (s t : List ℕ) → all p (s ++ t) ≡ (all p s && all p t)
@@ -107,52 +100,6 @@ map-back {p} f g w (x ∷ xs) h =
     let tail = map-back f g w xs b in
     cc
 
--- the same lists are equal
-pub same-equal : (xs ys : List ℕ) → same xs ys ≡ true → xs ≡ ys
-unfolding same
-same-equal [] [] e = refl
-same-equal [] (y ∷ ys) e = cc
-same-equal (x ∷ xs) [] e = cc
-same-equal (x ∷ xs) (y ∷ ys) e =
-    let (h, t) = and-eq-true-iff (eqb x y) (same xs ys) .0 e in
-    let head = eqb-true x y h in
-    let tail = same-equal xs ys t in
-    cc
-
--- a list is the same as itself
-pub same-self : (xs : List ℕ) → same xs xs ≡ true
-unfolding same
-same-self [] = refl
-same-self (x ∷ xs) = rw (eq-eqb x x refl, same-self xs)
-
--- nothing is left exactly from the end on
-pub none-left : (xs : List ℕ) (i : ℕ) → same (drop i xs) [] ≡ leb (length xs) i
-unfolding same
-none-left xs i = go (leb (length xs) i) refl
-  where
-    go : (b : Bool) → leb (length xs) i ≡ b → same (drop i xs) [] ≡ b
-    go true e = rw (drop-of-length-le xs (leb-true _ _ e))
-    go false e = rw (drop-cons xs i 0 (leb-false _ _ e))
-
--- a loop that looks for a member: it stands here, or further on, or nowhere
-module _ (y : ℕ) (xs : List ℕ) (i : ℕ) where
-  -- the member at i is the one
-  pub before-here : getD xs i 0 ≡ y → i < length xs → before y (drop i xs) ≡ 0
-  unfolding before
-  before-here e h = rw (drop-cons xs i 0 h, eq-eqb (getD xs i 0) y e)
-
-  -- the member at i is another
-  pub before-further : (getD xs i 0 ≡ y → ⊥) → i < length xs → i + before y (drop i xs) ≡ i + 1 + before y (drop (i + 1) xs)
-  unfolding before
-  before-further e h =
-      let step : before y (drop i xs) ≡ suc (before y (drop (i + 1) xs)) = rw (add-one, drop-cons xs i 0 h, ne-eqb (getD xs i 0) y e) in
-      omega arith
-
-  -- none is left
-  pub before-none : length xs ≤ i → before y (drop i xs) ≡ 0
-  unfolding before
-  before-none h = rw (drop-of-length-le xs h)
-
 -- a letter or digit is a 7-bit value
 pub alphanumeric-seven : (c : ℕ) → alphanumeric c ≡ true → seven c ≡ true
 alphanumeric-seven c h = go (seven c) refl
@@ -162,17 +109,3 @@ alphanumeric-seven c h = go (seven c) refl
     go false e =
         let far = ltb-false c 0x80 e in
         absurd (false≢true (simp (lt-leb c 0x39 (omega arith), lt-leb c 0x5A (omega arith), lt-leb c 0x7A (omega arith), and-false) at h))
-
--- a place is within the list
-pub before-within : (y : ℕ) (xs : List ℕ) → before y xs ≤ length xs
-unfolding before
-before-within y [] = omega arith
-before-within y (x ∷ xs) = go (eqb x y) (before-within y xs)
-  where
-    go : (b : Bool) → before y xs ≤ length xs → (if b then 0 else suc (before y xs)) ≤ length (x ∷ xs)
-    go true h = omega arith
-    go false h = omega arith
-
--- a place that is looked for from a place on is too
-pub find-within : (y : ℕ) (xs : List ℕ) (from : ℕ) → from ≤ length xs → from + before y (drop from xs) ≤ length xs
-find-within y xs from h = omega (arith, before-within y (drop from xs), length-drop from xs)

@@ -1,14 +1,14 @@
 -- Laws of copying into lent memory: the first byte, a copy that has room, and one into the part behind what is laid already.
 use mathlib.Core.List.{List, [], _∷_, _++_}
-use mathlib.Core.Path.{_≡_, refl, ap, _∙_}
+use mathlib.Core.Path.{_≡_, refl, sym}
 use Prim.Native.Nat.{ℕ, _+_, _-_, _≤_}
 use native.Mathlib.Omega.{arith}
 use borrow.Author.Tests.{le-ltb}
-use lib.ListN.{length, take, drop, set, length-drop}
-use lib.Seq.{take-all}
-use Rattle.line.specs.Answer.{Wrote, copied, overlay}
+use lib.ListN.{length, take, drop, set}
+use Rattle.line.specs.Answer.{Laid, Wrote, copied, overlay}
 use Rattle.line.specs.declared.answer.Written.{Written}
-use Rattle.line.proofs.OverlayLaws.{overlay-length, overlay-snoc, overlay-part}
+use Rattle.line.proofs.OverlayLaws.{overlay-snoc}
+use Rattle.line.proofs.LaidLaws.{part-length, laid-length, laid-part}
 
 -- one byte, stored at the start
 pub overlay-first : (m : List ℕ) (v : ℕ) → 1 ≤ length m → set m 0 v ≡ overlay (v ∷ []) m
@@ -25,7 +25,7 @@ pub copied-part : {r : Written} (a xs m out after : List ℕ) (n : ℕ) → out 
     Wrote (copied xs (length (take (length out - n) (drop n out)))) r (take (length out - n) (drop n out)) after →
     take n out ++ (after ++ drop (length out - n) (drop n out)) ≡ overlay (a ++ xs) m
 copied-part a xs m out after n e l h w =
-    let long : length out ≡ length m = ap length e ∙ overlay-length a m (omega arith) in
-    let rest : take (length out - n) (drop n out) ≡ drop n out = take-all (length out - n) (drop n out) (omega (arith, length-drop n out)) in
-    let laid = copied-laid xs (drop n out) after (omega (arith, length-drop n out)) (rw rest at w) in
-    rw (laid, long, e) (overlay-part a xs m n (length m - n) l (omega arith) refl)
+    let laid : Laid a n m out = record { counts = sym l; leaves = e } in
+    let room = part-length n out in
+    let long = laid-length laid (omega arith) in
+    laid-part laid h (record { counts = refl; leaves = copied-laid xs (take (length out - n) (drop n out)) after (omega arith) w }) .leaves

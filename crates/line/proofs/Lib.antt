@@ -1,7 +1,10 @@
 pub mod AllLaws
 pub mod CopyLaws
+pub mod FindLaws
 pub mod FlatLaws
 pub mod LaidLaws
+pub mod ListLaws
+pub mod NumberLaws
 pub mod OutcomeLaws
 pub mod OverlayLaws
 pub mod ParityLaws

@@ -1,7 +1,7 @@
 -- Laws of even parity: what is set has an even number of ones, setting and taking off undo each other, and a flipped bit 7 is refused.
 use mathlib.Core.Bool.{Bool, true, false, not, _&&_, and-eq-true-iff}
 use mathlib.Core.List.{List, map}
-use mathlib.Core.Path.{_≡_, refl, ap, _∙_}
+use mathlib.Core.Path.{_≡_, refl, sym, ap, _∙_}
 use Prim.Native.Nat.{ℕ, zero, suc, _+_, _-_, _*_, _/_, _%_, _≤_, _<_}
 use native.Mathlib.Omega.{arith}
 use borrow.Author.Tests.{ltb-true, eqb-true, lt-ltb, le-ltb, eq-eqb, ne-eqb}
@@ -9,10 +9,11 @@ use lib.Count.{ones, ones-cat}
 use lib.Dec.{ltb}
 use lib.ListN.{length, getD, set, length-map, length-set}
 use lib.Seq.{getD-set-same}
-use Rattle.line.specs.Answer.{done, refused}
+use Rattle.line.specs.Answer.{done, refused, Laid, Wrote}
 use Rattle.line.specs.Character.{byte, seven}
 use Rattle.line.specs.Parity.{even, withParity, sevenBits, flipTop, parityOn, parityOff}
 use Rattle.line.specs.Test.{if_then_else_, all}
+use Rattle.line.specs.declared.answer.Written.{Written}
 use Rattle.line.proofs.AllLaws.{all-at, all-fails, all-both, all-map, map-back}
 
 -- a digit is the number of its ones
@@ -106,6 +107,16 @@ pub flip-refused : (line : List ℕ) (i room : ℕ) → all even line ≡ true �
     parityOff (set line i (flipTop (getD line i 0))) room ≡ refused 3
 unfolding parityOff
 flip-refused line i room e h b r = rw (length-set, le-ltb room (length line) r, all-flip-odd line i e h b)
+
+-- characters for which there is room are set
+pub parity-made : (text : List ℕ) (room : ℕ) → all seven text ≡ true → length text ≤ room → parityOn text room ≡ done (map withParity text)
+unfolding parityOn
+parity-made text room h l = rw (le-ltb room (length text) l, h)
+
+-- and lie on the line
+pub parity-laid : {r : Written} (text m after : List ℕ) → all seven text ≡ true → length text ≤ length m → Wrote (parityOn text (length m)) r m after →
+    Laid (map withParity text) (length text) m after
+parity-laid text m after h l w = record { counts = sym (length-map text withParity); leaves = rw (parity-made text (length m) h l) at (w .leaves) }
 
 -- the line of a text gives the text back
 pub with-off : (text : List ℕ) (room : ℕ) → all seven text ≡ true → length text ≤ room → parityOff (map withParity text) room ≡ done text

@@ -1,16 +1,42 @@
--- Laws of `same`, the test of two lists: as a loop makes it, and over an append.
-use mathlib.Core.Bool.{Bool, true, false, _&&_, and-assoc, and-true}
+-- Laws of `same`, the test of two lists: it decides that they are equal; as a loop makes it, and over an append.
+use mathlib.Core.Bool.{Bool, true, false, _&&_, and-assoc, and-eq-true-iff, and-true}
 use mathlib.Core.List.{List, [], _∷_, _++_}
 use mathlib.Core.Path.{_≡_, refl, sym, ap, _∙_}
 use Prim.Native.Nat.{ℕ, suc, _+_, _-_, _≤_, _<_}
 use native.Mathlib.Numerals.{add-one}
 use native.Mathlib.Omega.{arith}
-use borrow.Author.Tests.{eq-eqb, ne-eqb}
-use lib.Dec.{eqb}
+use borrow.Author.Tests.{eqb-true, eq-eqb, ne-eqb, leb-true, leb-false}
+use lib.Dec.{eqb, leb}
 use lib.ListN.{length, getD, take, drop, drop-of-length-le}
 use lib.Seq.{drop-cons}
 use Rattle.line.specs.Test.{same}
-use Rattle.line.proofs.AllLaws.{same-equal}
+
+-- the same lists are equal
+pub same-equal : (xs ys : List ℕ) → same xs ys ≡ true → xs ≡ ys
+unfolding same
+same-equal [] [] e = refl
+same-equal [] (y ∷ ys) e = cc
+same-equal (x ∷ xs) [] e = cc
+same-equal (x ∷ xs) (y ∷ ys) e =
+    let (h, t) = and-eq-true-iff (eqb x y) (same xs ys) .0 e in
+    let head = eqb-true x y h in
+    let tail = same-equal xs ys t in
+    cc
+
+-- a list is the same as itself
+pub same-self : (xs : List ℕ) → same xs xs ≡ true
+unfolding same
+same-self [] = refl
+same-self (x ∷ xs) = rw (eq-eqb x x refl, same-self xs)
+
+-- nothing is left exactly from the end on
+pub none-left : (xs : List ℕ) (i : ℕ) → same (drop i xs) [] ≡ leb (length xs) i
+unfolding same
+none-left xs i = go (leb (length xs) i) refl
+  where
+    go : (b : Bool) → leb (length xs) i ≡ b → same (drop i xs) [] ≡ b
+    go true e = rw (drop-of-length-le xs (leb-true _ _ e))
+    go false e = rw (drop-cons xs i 0 (leb-false _ _ e))
 
 -- lists of different lengths are not the same
 pub same-lengths : (xs ys : List ℕ) → (length xs ≡ length ys → ⊥) → false ≡ same xs ys

@@ -1,14 +1,14 @@
 -- Laws of fields and transactions: the two readings of a legal transaction are one, its fields are unique, and where it ends.
-use mathlib.Core.Bool.{Bool, true, false, not, _&&_, false≢true, and-eq-true-iff}
+use mathlib.Core.Bool.{Bool, true, false, not, _&&_, false≢true, and-eq-true-iff, and-true, and-false}
 use mathlib.Core.List.{List, [], _∷_, _++_}
 use mathlib.Core.Logic.{_⊎_, inl, inr}
 use mathlib.Core.Path.{_≡_, refl, ap, _∙_}
-use Prim.Native.Nat.{ℕ, _-_, _≤_}
+use Prim.Native.Nat.{ℕ, _-_, _≤_, _<_}
 use native.Mathlib.Numerals.{sub-one}
 use native.Mathlib.Omega.{arith}
-use borrow.Author.Tests.{leb-true, eqb-true, le-leb, lt-ltb}
+use borrow.Author.Tests.{leb-true, eqb-true, le-leb, lt-leb, lt-ltb}
 use lib.Dec.{leb, eqb}
-use lib.ListN.{length, getD, take, drop, length-append}
+use lib.ListN.{length, getD, drop, length-append}
 use Rattle.line.specs.Answer.{Outcome, done, refused}
 use Rattle.line.specs.Character.{CR, seven, printable, textual}
 use Rattle.line.specs.Test.{if_then_else_, all}
@@ -44,6 +44,12 @@ ends-append [] c t = refl
 ends-append (x ∷ []) c t = refl
 ends-append (x ∷ y ∷ s) c t = ends-append (y ∷ s) c t
 
+-- what is joined ends in CR where the second part does
+pub ends-joined : (s t : List ℕ) → endsInCR t ≡ true → endsInCR (s ++ t) ≡ true
+unfolding endsInCR
+ends-joined s [] h = cc
+ends-joined s (c ∷ t) h = ends-append s c t ∙ h
+
 -- nothing does not end in CR
 pub ends-none : (t : List ℕ) → length t ≡ 0 → endsInCR t ≡ false
 unfolding endsInCR
@@ -62,13 +68,6 @@ unfolding endsInCR
 ends-last [] = refl
 ends-last (c ∷ []) = refl
 ends-last (c ∷ d ∷ t) = rw sub-one (rw sub-one at (ends-last (d ∷ t)))
-
--- what ends in CR is what precedes the last place, and CR
-pub ends-split : (t : List ℕ) → endsInCR t ≡ true → t ≡ take (length t - 1) t ++ CR ∷ []
-unfolding endsInCR
-ends-split [] h = cc
-ends-split (c ∷ []) h = rw (eqb-true c CR h)
-ends-split (c ∷ d ∷ t) h = rw sub-one (let e = rw sub-one at (ends-split (d ∷ t) h) in cc)
 
 -- fields are made of characters of a transaction
 fields-textual : {fs : List (List ℕ)} {t : List ℕ} → Fields fs t → all textual t ≡ true
@@ -117,6 +116,18 @@ legal-parts t h =
     let (n, text) = and-eq-true-iff _ (all textual t) .0 r in
     (n, text, end)
 
+-- what is short enough passes the test where it ends in CR and has the characters
+pub legal-short : (t : List ℕ) → length t ≤ 2000 → legal t ≡ (endsInCR t && all textual t)
+legal-short t h = go (endsInCR t) refl
+  where
+    go : (b : Bool) → endsInCR t ≡ b → legal t ≡ (b && all textual t)
+    go true e = rw (le-leb 1 (length t) (ends-some t e), le-leb (length t) 2000 h, e, and-true)
+    go false e = rw (e, and-false)
+
+-- what is too long does not
+pub legal-long : (t : List ℕ) → 2000 < length t → legal t ≡ false
+legal-long t h = rw (lt-leb (length t) 2000 h, and-false)
+
 -- what passes the test is a transaction
 pub legal-transaction : (t : List ℕ) → legal t ≡ true → Transaction t
 legal-transaction t h =
@@ -150,6 +161,15 @@ of-legal t o h =
     let (n, text, end) = legal-parts t h in
     rw (n, textual-seven t text, text, end)
 
+-- what is right in length and of 7-bit values and still no transaction has a wrong character or end
+pub of-illegal : {A : Type 0} (t : List ℕ) (o : Outcome A) → legal t ≡ false → 1 ≤ length t → length t ≤ 2000 → all seven t ≡ true → ofTransaction t o ≡ refused 6
+unfolding ofTransaction
+of-illegal t o h some few narrow =
+    let one = le-leb 1 (length t) some in
+    let most = le-leb (length t) 2000 few in
+    let wrong : all textual t && endsInCR t ≡ false = rw (one, most) at h in
+    rw (one, most, narrow, wrong)
+
 -- what is done is done with a transaction alone
 pub of-done : {A : Type 0} (t : List ℕ) (o : Outcome A) (x : A) → ofTransaction t o ≡ done x → (legal t ≡ true) × (o ≡ done x)
 unfolding ofTransaction
@@ -173,17 +193,3 @@ of-refused {A} {B} t x k o = go (leb 1 (length t) && leb (length t) 2000) (all s
     go true true false h = cc
     go true false e h = cc
     go false s e h = cc
-
--- a refusal is that of information which is no transaction
-pub refused-illegal : {A : Type 0} (t : List ℕ) (x : A) (k : ℕ) → ofTransaction t (done x) ≡ refused k → legal t ≡ false
-refused-illegal t x k e = go (legal t) refl
-  where
-    go : (l : Bool) → legal t ≡ l → l ≡ false
-    go false q = refl
-    go true q = let d = of-legal t (done x) q in cc
-
--- what is joined ends in CR where the second part does
-pub ends-joined : (s t : List ℕ) → endsInCR t ≡ true → endsInCR (s ++ t) ≡ true
-unfolding endsInCR
-ends-joined s [] h = cc
-ends-joined s (c ∷ t) h = ends-append s c t ∙ h

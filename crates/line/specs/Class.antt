@@ -5,7 +5,7 @@ use Rattle.line.specs.Character.{seven, printable, textual, digit, alpha
 use Rattle.line.specs.declared.character.Class.{Class}
 use Rattle.line.specs.declared.character.Class.the-variants.{SevenBit, Printable, Textual, Digit, Alphanumeric}
 
--- a byte is of a class
+-- a byte is of a class (R-1.2)
 abbrev pub member : Class → ℕ → Bool
 member SevenBit = seven
 member Printable = printable

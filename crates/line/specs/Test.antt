@@ -15,14 +15,14 @@ unfoldable pub all : (ℕ → Bool) → List ℕ → Bool
 all p [] = true
 all p (x ∷ xs) = p x && all p xs
 
--- the two lists are the same
+-- the two lists are the same (R-11.3)
 unfoldable pub same : List ℕ → List ℕ → Bool
 same [] [] = true
 same [] (y ∷ ys) = false
 same (x ∷ xs) [] = false
 same (x ∷ xs) (y ∷ ys) = eqb x y && same xs ys
 
--- how many members stand before the first y
+-- how many members stand before the first y (R-11.3)
 unfoldable pub before : ℕ → List ℕ → ℕ
 before y [] = 0
 before y (x ∷ xs) = if eqb x y then 0 else suc (before y xs)

@@ -1,6 +1,6 @@
-// The numbered refusals of document 01, and the answer of a function that fills lent memory.
+// The numbered refusals of document 01, and the answers of functions that write to lent memory or test what they are lent.
 ghost use mathlib.Core.Path.{_≡_};
-ghost use Rattle.line.specs.Answer.{refusalNumber};
+ghost use Rattle.line.specs.Answer.{checkedAs, countOf, numberOf, refusalNumber, writtenAs};
 
 // Why a call was refused. `number` gives document 01's number.
 pub enum Refusal {
@@ -28,6 +28,52 @@ pub enum Refusal {
 pub enum Written {
     Count(usize),
     Refused(Refusal),
+}
+
+// What a test answers that writes nothing: how many it has counted, or why it counts none.
+pub enum Checked {
+    Count(usize),
+    Refused(Refusal),
+}
+
+// Document 01's number of what a writer answers: 0 where it is done.
+pub fn code(written: Written) -> u8
+    ensures { λ r. ⌜ r ≡ numberOf (writtenAs written) ⌝ }
+{
+    match written {
+        Written::Count(_) => 0,
+        Written::Refused(refusal) => number(refusal),
+    }
+}
+
+// The count that goes with it: nought where it is refused.
+pub fn count(written: Written) -> usize
+    ensures { λ r. ⌜ r ≡ countOf (writtenAs written) ⌝ }
+{
+    match written {
+        Written::Count(n) => n,
+        Written::Refused(_) => 0,
+    }
+}
+
+// Document 01's number of what a test answers: 0 where it is done.
+pub fn checked_code(checked: Checked) -> u8
+    ensures { λ r. ⌜ r ≡ numberOf (checkedAs checked) ⌝ }
+{
+    match checked {
+        Checked::Count(_) => 0,
+        Checked::Refused(refusal) => number(refusal),
+    }
+}
+
+// The count that goes with it: nought where it is refused.
+pub fn checked_count(checked: Checked) -> usize
+    ensures { λ r. ⌜ r ≡ countOf (checkedAs checked) ⌝ }
+{
+    match checked {
+        Checked::Count(n) => n,
+        Checked::Refused(_) => 0,
+    }
 }
 
 pub fn number(refusal: Refusal) -> u8

@@ -44,14 +44,13 @@ pub enum Class {
 pub fn are(text: &[u8], class: Class) -> bool
     ensures { λ r. ⌜ r ≡ all (member class) (now (text .entry)) ⌝ }
 {
+    let mut every = true;
     let mut i = 0;
     while i < text.len() {
-        if !is(text[i], class) {
-            return false;
-        }
+        every = every & is(text[i], class);
         i += 1;
     }
-    true
+    every
 }
 
 // The byte is of the class.
@@ -60,16 +59,16 @@ pub fn is(c: u8, class: Class) -> bool
 {
     match class {
         Class::SevenBit => c < 0x80,
-        Class::Printable => between(0x20, c, 0x7E),
-        Class::Textual => between(0x20, c, 0x7E) | (c == CR),
-        Class::Digit => between(0x30, c, 0x39),
-        Class::Alphanumeric => between(0x30, c, 0x39)
-            | between(0x41, c, 0x5A)
-            | between(0x61, c, 0x7A),
+        Class::Printable => in_span(0x20, c, 0x7E),
+        Class::Textual => in_span(0x20, c, 0x7E) | (c == CR),
+        Class::Digit => in_span(0x30, c, 0x39),
+        Class::Alphanumeric => in_span(0x30, c, 0x39)
+            | in_span(0x41, c, 0x5A)
+            | in_span(0x61, c, 0x7A),
     }
 }
 
-fn between(low: u8, c: u8, high: u8) -> bool
+fn in_span(low: u8, c: u8, high: u8) -> bool
     ensures { λ r. ⌜ r ≡ (leb low c && leb c high) ⌝ }
 {
     (low <= c) & (c <= high)

@@ -5,8 +5,10 @@ pub mod character;
 pub mod memory;
 pub mod parity;
 pub mod password;
+pub mod setting;
 pub mod transaction;
 
+pub use answer::Checked;
 pub use answer::Refusal;
 pub use answer::Written;
 pub use password::Password;

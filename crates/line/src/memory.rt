@@ -1,15 +1,17 @@
-// Lent memory: copies into it, and searches in it.
+// Lent memory: copies into it, searches in it, and whether two parts hold the same.
 use crate::answer::Refusal;
 use crate::answer::Written;
 ghost use mathlib.Core.Path.{_≡_};
 ghost use Prim.Native.Nat.{_+_, _≤_};
 ghost use lib.ListN.{drop, length};
 ghost use Rattle.line.specs.Answer.{Wrote, copied, overlay};
-ghost use Rattle.line.specs.Test.{before};
+ghost use Rattle.line.specs.Test.{before, same};
 
 // All of the bytes, at the start of the output.
 pub fn copy(bytes: &[u8], out: &mut [u8]) -> Written
-    ensures { λ r. ⌜ Wrote (copied (now (bytes .entry)) (length (now (out .entry)))) r (now (out .entry)) (now (out .exit)) ⌝ }
+    ensures { λ r. ⌜ Wrote
+        (copied (now (bytes .entry)) (length (now (out .entry))))
+        r (now (out .entry)) (now (out .exit)) ⌝ }
 {
     if out.len() < bytes.len() {
         return Written::Refused(Refusal::Size);
@@ -29,7 +31,7 @@ fn put(bytes: &[u8], out: &mut [u8])
     }
 }
 
-// The place of the first such byte, from a place on; the end where there is none.
+// The place of the first such byte, from a place on. Where there is none it is the end, or that place itself if it lies further on.
 pub fn find(bytes: &[u8], from: usize, byte: u8) -> usize
     ensures { λ r. ⌜ r ≡ from + before byte (drop from (now (bytes .entry))) ⌝ }
 {
@@ -41,4 +43,21 @@ pub fn find(bytes: &[u8], from: usize, byte: u8) -> usize
         i += 1;
     }
     i
+}
+
+// The two hold the same bytes.
+pub fn is_same(bytes: &[u8], other: &[u8]) -> bool
+    ensures { λ r. ⌜ r ≡ same (now (bytes .entry)) (now (other .entry)) ⌝ }
+{
+    if bytes.len() != other.len() {
+        return false;
+    }
+    let mut i = 0;
+    while i < bytes.len() {
+        if bytes[i] != other[i] {
+            return false;
+        }
+        i += 1;
+    }
+    true
 }

@@ -15,7 +15,9 @@ ghost use Rattle.line.specs.Test.{all};
 
 // Characters to the line: each with bit 7 set so that its ones are even.
 pub fn set_parity(text: &[u8], out: &mut [u8]) -> Written
-    ensures { λ r. ⌜ Wrote (parityOn (now (text .entry)) (length (now (out .entry)))) r (now (out .entry)) (now (out .exit)) ⌝ }
+    ensures { λ r. ⌜ Wrote
+        (parityOn (now (text .entry)) (length (now (out .entry))))
+        r (now (out .entry)) (now (out .exit)) ⌝ }
 {
     if out.len() < text.len() {
         return Written::Refused(Refusal::Size);
@@ -29,7 +31,9 @@ pub fn set_parity(text: &[u8], out: &mut [u8]) -> Written
 
 // Bytes of the line to characters: each tested for an even number of ones, and bit 7 taken off.
 pub fn clear_parity(line: &[u8], out: &mut [u8]) -> Written
-    ensures { λ r. ⌜ Wrote (parityOff (now (line .entry)) (length (now (out .entry)))) r (now (out .entry)) (now (out .exit)) ⌝ }
+    ensures { λ r. ⌜ Wrote
+        (parityOff (now (line .entry)) (length (now (out .entry))))
+        r (now (out .entry)) (now (out .exit)) ⌝ }
 {
     if out.len() < line.len() {
         return Written::Refused(Refusal::Size);
@@ -45,14 +49,13 @@ pub fn clear_parity(line: &[u8], out: &mut [u8]) -> Written
 pub fn is_even(line: &[u8]) -> bool
     ensures { λ r. ⌜ r ≡ all even (now (line .entry)) ⌝ }
 {
+    let mut every = true;
     let mut i = 0;
     while i < line.len() {
-        if u8::count_ones(line[i]) % 2 != 0 {
-            return false;
-        }
+        every = every & (u8::count_ones(line[i]) % 2 == 0);
         i += 1;
     }
-    true
+    every
 }
 
 fn put_parity(text: &[u8], out: &mut [u8])

@@ -1,38 +1,45 @@
 // A transaction's information, tested as document 01 describes it.
+use crate::answer::Checked;
 use crate::answer::Refusal;
-use crate::answer::Written;
 use crate::character::CR;
 use crate::character::Class;
 use crate::character::are;
 ghost use mathlib.Core.Path.{_≡_};
 ghost use lib.ListN.{length};
-ghost use Rattle.line.specs.Answer.{writtenAs, done};
-ghost use Rattle.line.specs.Transaction.{endsInCR, ofTransaction};
+ghost use Rattle.line.specs.Answer.{checkedAs, done};
+ghost use Rattle.line.specs.Transaction.{endsInCR, legal, ofTransaction};
 
 // The most characters of a transaction's information.
-pub const LONGEST: usize = 2000;
+pub const MOST_INFORMATION: usize = 2000;
 
 // The length of the information of a transaction, or why it is none.
-pub fn check_transaction(info: &[u8]) -> Written
-    ensures { λ r. ⌜ writtenAs r ≡ ofTransaction (now (info .entry)) (done (length (now (info .entry)))) ⌝ }
+pub fn check_transaction(info: &[u8]) -> Checked
+    ensures { λ r. ⌜ checkedAs r ≡ ofTransaction (now (info .entry)) (done (length (now (info .entry)))) ⌝ }
 {
     let n = info.len();
-    if n < 1 {
-        return Written::Refused(Refusal::Length);
+    if is_legal(info) {
+        return Checked::Count(n);
     }
-    if LONGEST < n {
-        return Written::Refused(Refusal::Length);
+    if n < 1 {
+        return Checked::Refused(Refusal::Length);
+    }
+    if MOST_INFORMATION < n {
+        return Checked::Refused(Refusal::Length);
     }
     if !are(info, Class::SevenBit) {
-        return Written::Refused(Refusal::Parity);
+        return Checked::Refused(Refusal::Parity);
     }
-    if !are(info, Class::Textual) {
-        return Written::Refused(Refusal::Information);
+    Checked::Refused(Refusal::Information)
+}
+
+// The information is that of a legal transaction.
+pub fn is_legal(info: &[u8]) -> bool
+    ensures { λ r. ⌜ r ≡ legal (now (info .entry)) ⌝ }
+{
+    if MOST_INFORMATION < info.len() {
+        return false;
     }
-    if !ends_in_cr(info) {
-        return Written::Refused(Refusal::Information);
-    }
-    Written::Count(n)
+    ends_in_cr(info) & are(info, Class::Textual)
 }
 
 // The last character is CR.

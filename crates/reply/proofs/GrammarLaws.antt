@@ -14,7 +14,7 @@ use Rattle.line.specs.Test.{if_then_else_, all, same}
 use Rattle.line.specs.Text.{bytesOf}
 use Rattle.line.proofs.ParityLaws.{flip-odd}
 use Rattle.reply.specs.Grammar.{LineEnd, Lines, line, Code, ack, nak, rs, eot, Means, reply, acceptance, request, Recognizes}
-use Rattle.reply.specs.Reading.{restAfter, afterLines, ends, begins, closes, requests, accepts, codeRead, textRead, named, replyRead}
+use Rattle.reply.specs.Reading.{restAfter, afterLines, ends, begins, closes, requests, accepts, codeRead, textRead, recognizedIn, replyRead}
 use Rattle.reply.specs.declared.Meaning.{Meaning}
 use Rattle.reply.specs.declared.Meaning.the-variants.{IdRequest, Acceptance, Ack, Nak, Rs, Eot}
 use Rattle.reply.specs.declared.Reply.{Reply}
@@ -108,7 +108,7 @@ unfolding replyRead parityOff
 recognized bytes m = go (ltb 256 (length bytes)) (all even bytes) refl refl
   where
     go : (long right : Bool) → ltb 256 (length bytes) ≡ long → all even bytes ≡ right →
-        named (if long then refused 1 else if not right then refused 3 else done (map sevenBits bytes)) ≡ Recognized m → Recognizes m bytes
+        recognizedIn (if long then refused 1 else if not right then refused 3 else done (map sevenBits bytes)) ≡ Recognized m → Recognizes m bytes
     go true right l p h = absurd (false≢true cc)
     go false true l p h = record { within = ltb-false 256 (length bytes) l; parity = p; means = read-means (map sevenBits bytes) m h }
     go false false l p h = absurd (false≢true cc)
@@ -132,7 +132,7 @@ pub odd-unrecognized : (b : ℕ) (bs : List ℕ) → even b ≡ false → replyR
 unfolding replyRead parityOff all
 odd-unrecognized b bs h = rw h (go (ltb 256 (length (b ∷ bs))))
   where
-    go : (long : Bool) → named (if long then refused 1 else refused 3) ≡ Unrecognized
+    go : (long : Bool) → recognizedIn (if long then refused 1 else refused 3) ≡ Unrecognized
     go true = refl
     go false = refl
 

@@ -8,7 +8,7 @@ use lib.Seq.{drop-drop}
 use Rattle.line.specs.Character.{ACK, CR, EOT, ESC, LF, NAK, RS}
 use Rattle.line.specs.Test.{same}
 use Rattle.line.specs.Text.{bytesOf}
-use Rattle.line.proofs.AllLaws.{same-equal}
+use Rattle.line.proofs.SameLaws.{same-equal}
 use Rattle.reply.specs.Grammar.{LineEnd, cr, crlf, Code, ack, nak, rs, eot, Space, none, one, Close, nothing, ended}
 use Rattle.reply.specs.Reading.{restAfter, afterLines, ends, begins, closes, finishes, requests, accepts, codeRead}
 use Rattle.reply.specs.declared.Meaning.{Meaning}

@@ -11,7 +11,7 @@ use lib.ListN.{length, getD, take, drop, length-take, drop-of-length-le}
 use lib.Seq.{drop-cons}
 use Rattle.line.specs.Character.{CR, LF, printable}
 use Rattle.line.specs.Test.{if_then_else_, same}
-use Rattle.line.proofs.AllLaws.{same-equal}
+use Rattle.line.proofs.SameLaws.{same-equal}
 use Rattle.reply.specs.Reading.{begins, ends, restAfter}
 
 -- behind a CR, nothing or a LF alone ends the text

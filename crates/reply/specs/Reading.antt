@@ -64,11 +64,11 @@ codeRead text =
 unfoldable pub textRead : List ℕ → Reply
 textRead text = if requests text then Recognized IdRequest else codeRead (afterLines text)
 
--- what is named where a text could be taken off the line
-abbrev pub named : Outcome (List ℕ) → Reply
-named (done text) = textRead text
-named (refused n) = Unrecognized
+-- what is recognized where a text could be taken off the line
+abbrev pub recognizedIn : Outcome (List ℕ) → Reply
+recognizedIn (done text) = textRead text
+recognizedIn (refused n) = Unrecognized
 
--- bytes off the line: over 256 of them, or one of odd parity, are not recognized
+-- bytes off the line: over 256 of them, or one of odd parity, are not recognized (R-5.6)
 unfoldable pub replyRead : List ℕ → Reply
-replyRead bytes = named (parityOff bytes 256)
+replyRead bytes = recognizedIn (parityOff bytes 256)

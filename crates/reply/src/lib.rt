@@ -39,13 +39,13 @@ pub enum Reply {
 }
 
 // The longest reply.
-pub const LONGEST: usize = 256;
+pub const MOST_REPLY: usize = 256;
 
 // The meaning of the bytes as they came off the line, with parity.
 pub fn read(bytes: &[u8]) -> Reply
     ensures { λ r. ⌜ r ≡ replyRead (now (bytes .entry)) ⌝ }
 {
-    let mut text = [0u8; LONGEST];
+    let mut text = [0u8; MOST_REPLY];
     let Written::Count(n) = clear_parity(bytes, &mut text) else {
         return Reply::Unrecognized;
     };

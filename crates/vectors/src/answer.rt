@@ -1,98 +1,108 @@
-// An answer, put together piece by piece: each goes to a place of the output, if there is room, and
-// what follows goes to the place behind it.
+// An answer, printed piece by piece.
+use crate::argument::word;
+use libc::STDOUT_FILENO;
 use line::Refusal;
-use line::memory::copy;
 use reply::Meaning;
 use reply::Reply;
-ghost use Prim.Native.Nat.{_<_, _≤_};
-ghost use lib.ListN.{length};
+use std::num::wrapping_add_usize;
 
-// What the sums of a digest are reduced by.
+// What the sum of a digest is reduced by.
 const MODULUS: usize = 1000003;
 
-pub(crate) fn put_text(text: &[u8], out: &mut [u8], at: usize) -> usize
-    requires { ⌜ at ≤ length (now out) ⌝ }
-    ensures { λ r. ⌜ r ≤ length (now (out .exit)) ⌝ }
-{
-    if out.len() - at < text.len() {
-        return at;
-    }
-    copy(text, &mut out[at..]);
-    at + text.len()
+pub(crate) fn print_text(text: &[u8]) {
+    io::write_all(STDOUT_FILENO, text);
 }
 
 // A number in decimal.
-pub(crate) fn put_number(n: usize, out: &mut [u8], at: usize) -> usize
-    requires { ⌜ at ≤ length (now out) ⌝ }
-    ensures { λ r. ⌜ r ≤ length (now (out .exit)) ⌝ }
-{
-    let mut text = [0u8; 20];
-    let k = io::decimal(n as u64, &mut text);
-    put_text(&text[..k], out, at)
+pub(crate) fn print_number(n: usize) {
+    io::print_decimal(STDOUT_FILENO, n as u64);
 }
 
 // Bytes in hex; no bytes are `-`.
-pub(crate) fn put_bytes(bytes: &[u8], out: &mut [u8], at: usize) -> usize
-    requires { ⌜ at ≤ length (now out) ⌝ }
-    ensures { λ r. ⌜ r ≤ length (now (out .exit)) ⌝ }
-{
+pub(crate) fn print_bytes(bytes: &[u8]) {
     if bytes.len() == 0 {
-        return put_text(b"-", out, at);
+        print_text(b"-");
+        return;
     }
-    put_pairs(bytes, out, at)
+    let mut i = 0;
+    while i < bytes.len() {
+        print_byte(bytes[i]);
+        i += 1;
+    }
+}
+
+fn print_byte(byte: u8) {
+    io::print_hex(STDOUT_FILENO, byte as u64, 2);
+}
+
+// A number, behind a space.
+pub(crate) fn print_item(n: usize) {
+    print_text(b" ");
+    print_number(n);
+}
+
+// Bytes in hex, behind a space.
+pub(crate) fn print_part(bytes: &[u8]) {
+    print_text(b" ");
+    print_bytes(bytes);
 }
 
 // How many bytes, and these.
-pub(crate) fn put_counted(bytes: &[u8], out: &mut [u8], at: usize) -> usize
-    requires { ⌜ at ≤ length (now out) ⌝ }
-    ensures { λ r. ⌜ r ≤ length (now (out .exit)) ⌝ }
-{
-    let end = put_number(bytes.len(), out, at);
-    put_next(bytes, out, end)
+pub(crate) fn print_counted(bytes: &[u8]) {
+    print_number(bytes.len());
+    print_part(bytes);
 }
 
-// A space, and bytes behind it.
-pub(crate) fn put_next(bytes: &[u8], out: &mut [u8], at: usize) -> usize
-    requires { ⌜ at ≤ length (now out) ⌝ }
-    ensures { λ r. ⌜ r ≤ length (now (out .exit)) ⌝ }
-{
-    let end = put_text(b" ", out, at);
-    put_bytes(bytes, out, end)
+// The name at an index of a list that has `|` between its names.
+pub(crate) fn print_name(names: &[u8], index: usize) {
+    print_text(word(names, index, b'|'));
 }
 
-pub(crate) fn put_refusal(refusal: Refusal, out: &mut [u8], at: usize) -> usize
-    requires { ⌜ at ≤ length (now out) ⌝ }
-    ensures { λ r. ⌜ r ≤ length (now (out .exit)) ⌝ }
-{
-    let end = put_text(b"refused ", out, at);
-    put_number(line::answer::number(refusal) as usize, out, end)
+pub(crate) fn print_refusal(refusal: Refusal) {
+    print_text(b"refused ");
+    print_number(line::answer::number(refusal) as usize);
 }
 
 // Long bytes by their number and a sum that tells places apart.
-pub(crate) fn put_digest(bytes: &[u8], out: &mut [u8], at: usize) -> usize
-    requires { ⌜ at ≤ length (now out) ⌝ }
-    ensures { λ r. ⌜ r ≤ length (now (out .exit)) ⌝ }
-{
-    let counted = put_number(bytes.len(), out, at);
-    let end = put_text(b" ", out, counted);
-    put_number(digest(bytes), out, end)
+pub(crate) fn print_digest(bytes: &[u8]) {
+    print_number(bytes.len());
+    print_item(digest(bytes));
 }
 
-pub(crate) fn put_reply(reply: Reply, out: &mut [u8], at: usize) -> usize
-    requires { ⌜ at ≤ length (now out) ⌝ }
-    ensures { λ r. ⌜ r ≤ length (now (out .exit)) ⌝ }
-{
+// What a buffer holds, by its digest, behind a space.
+pub(crate) fn print_buffer(bytes: &[u8]) {
+    print_text(b" ");
+    print_digest(bytes);
+}
+
+pub(crate) fn print_reply(reply: Reply) {
     let Reply::Recognized(meaning) = reply else {
-        return put_text(b"unrecognized", out, at);
+        print_text(b"unrecognized");
+        return;
     };
+    print_name(
+        b"id request|acceptance|ack|nak|rs|eot",
+        meaning_index(meaning),
+    );
+}
+
+fn meaning_index(meaning: Meaning) -> usize {
     match meaning {
-        Meaning::IdRequest => put_text(b"id request", out, at),
-        Meaning::Acceptance => put_text(b"acceptance", out, at),
-        Meaning::Ack => put_text(b"ack", out, at),
-        Meaning::Nak => put_text(b"nak", out, at),
-        Meaning::Rs => put_text(b"rs", out, at),
-        Meaning::Eot => put_text(b"eot", out, at),
+        Meaning::IdRequest => 0,
+        Meaning::Acceptance => 1,
+        Meaning::Ack => 2,
+        Meaning::Nak => 3,
+        Meaning::Rs => 4,
+        Meaning::Eot => 5,
     }
+}
+
+// The bytes of a memory from a place on, or all of them where it has no such place.
+pub(crate) fn behind(memory: &[u8], place: usize) -> &[u8] {
+    if memory.len() < place {
+        return memory;
+    }
+    &memory[place..]
 }
 
 // So many bytes at the start of a memory, or all of it where it has fewer.
@@ -103,42 +113,15 @@ pub(crate) fn start(memory: &[u8], n: usize) -> &[u8] {
     &memory[..n]
 }
 
-fn put_pairs(bytes: &[u8], out: &mut [u8], at: usize) -> usize
-    requires { ⌜ at ≤ length (now out) ⌝ }
-    ensures { λ r. ⌜ r ≤ length (now (out .exit)) ⌝ }
-{
-    let mut end = at;
-    let mut i = 0;
-    while i < bytes.len() {
-        end = put_pair(bytes[i], out, end);
-        i += 1;
-    }
-    end
-}
-
-// A byte as two hex digits.
-fn put_pair(byte: u8, out: &mut [u8], at: usize) -> usize
-    requires { ⌜ at ≤ length (now out) ⌝ }
-    ensures { λ r. ⌜ r ≤ length (now (out .exit)) ⌝ }
-{
-    let mut text = [0u8; 16];
-    let k = io::hex(byte as u64, 2, &mut text);
-    put_text(&text[..k], out, at)
-}
-
+// The sum of the bytes, each times its place from 1: the sum of the sums from each place on.
 fn digest(bytes: &[u8]) -> usize {
+    let mut sums = 0;
     let mut sum = 0;
-    let mut i = 0;
-    while i < bytes.len() {
-        sum = (sum + weight(bytes[i], i)) % MODULUS;
-        i += 1;
+    let mut i = bytes.len();
+    while 0 < i {
+        i -= 1;
+        sum = wrapping_add_usize(sum, bytes[i] as usize);
+        sums = wrapping_add_usize(sums, sum);
     }
-    sum
-}
-
-// A byte times its place from 1, reduced.
-fn weight(byte: u8, i: usize) -> usize
-    ensures { λ r. ⌜ r < 1000003 ⌝ }
-{
-    byte as usize * (i % MODULUS + 1) % MODULUS
+    sums % MODULUS
 }

@@ -1,7 +1,6 @@
 // The words of a call: a letter, then arguments with a space before each.
-use crate::answer::put_text;
 use line::memory::find;
-ghost use Prim.Native.Nat.{_<_, _≤_};
+ghost use Prim.Native.Nat.{_+_, _<_, _≤_};
 ghost use lib.ListN.{length};
 ghost use Rattle.io.specs.Counts.{Counts};
 
@@ -15,7 +14,7 @@ struct Run {
 
 // The letter that the word at an index is; 0 where there is no such word.
 pub(crate) fn letter(call: &[u8], index: usize) -> u8 {
-    let text = word(call, index);
+    let text = word(call, index, b' ');
     if text.len() == 0 {
         return 0;
     }
@@ -42,7 +41,7 @@ pub(crate) fn size(call: &[u8], index: usize, memory: &[u8]) -> usize
 pub(crate) fn bytes(call: &[u8], index: usize, out: &mut [u8]) -> usize
     ensures { λ r. ⌜ Counts r (now (out .exit)) ⌝ }
 {
-    decode(word(call, index), out)
+    decode(word(call, index, b' '), out)
 }
 
 // The number of arguments: one behind each space.
@@ -50,40 +49,41 @@ pub(crate) fn count(call: &[u8]) -> usize {
     let mut n = 0;
     let mut i = 0;
     while i < call.len() {
-        n += spaces(call[i]);
+        n += marks(call[i], b' ');
         i += 1;
     }
     n
 }
 
-// The word at an index, from 0; nothing where there is no such word.
-fn word(call: &[u8], index: usize) -> &[u8] {
-    let start = word_start(call, index);
-    let end = find(call, start, b' ');
-    &call[start..end]
+// The word at an index, from 0, where a mark stands between words; nothing where there is no such
+// word.
+pub(crate) fn word(text: &[u8], index: usize, mark: u8) -> &[u8] {
+    let start = word_start(text, index, mark);
+    let end = find(text, start, mark);
+    &text[start..end]
 }
 
-// Where the word at an index begins: behind so many spaces.
-fn word_start(call: &[u8], index: usize) -> usize
-    ensures { λ r. ⌜ r ≤ length (now (call .entry)) ⌝ }
+// Where the word at an index begins: behind so many marks.
+fn word_start(text: &[u8], index: usize, mark: u8) -> usize
+    ensures { λ r. ⌜ r ≤ length (now (text .entry)) ⌝ }
 {
     let mut left = index;
     let mut i = 0;
-    while i < call.len() {
+    while i < text.len() {
         if left == 0 {
             return i;
         }
-        left -= spaces(call[i]);
+        left -= marks(text[i], mark);
         i += 1;
     }
     i
 }
 
-// 1 for a space, 0 for any other character.
-fn spaces(c: u8) -> usize
+// 1 for the mark, 0 for any other character.
+fn marks(c: u8, mark: u8) -> usize
     ensures { λ r. ⌜ r ≤ 1 ⌝ }
 {
-    if c == b' ' {
+    if c == mark {
         return 1;
     }
     0
@@ -107,36 +107,47 @@ fn run_at(text: &[u8], i: usize) -> Run
     requires { ⌜ i < length (now text) ⌝ }
     ensures { λ r. ⌜ i < r .next ⌝ }
 {
-    let left = text.len() - i;
-    if left < 2 {
+    if text.len() - i < 2 {
         return Run {
             byte: 0,
             count: 0,
             next: text.len(),
         };
     }
-    let byte = pair(text[i], text[i + 1]);
-    if left < 7 {
+    let byte = byte_at(text, i);
+    if count_length(text, i + 2) < 5 {
         return Run {
             byte,
             count: 1,
             next: i + 2,
         };
     }
-    if text[i + 2] != b'*' {
-        return Run {
-            byte,
-            count: 1,
-            next: i + 2,
-        };
-    }
-    let high = pair(text[i + 3], text[i + 4]);
-    let low = pair(text[i + 5], text[i + 6]);
     Run {
         byte,
-        count: wide(high, low),
+        count: wide(byte_at(text, i + 3), byte_at(text, i + 5)),
         next: i + 7,
     }
+}
+
+// How long the count that begins at a place is: 5 for a `*` and four hex digits, 0 for none.
+fn count_length(text: &[u8], i: usize) -> usize
+    requires { ⌜ i ≤ length (now text) ⌝ }
+    ensures { λ r. ⌜ i + r ≤ length (now (text .entry)) ⌝ }
+{
+    if text.len() - i < 5 {
+        return 0;
+    }
+    if text[i] != b'*' {
+        return 0;
+    }
+    5
+}
+
+// The byte of the two hex digits at a place.
+fn byte_at(text: &[u8], i: usize) -> u8
+    requires { ⌜ i + 2 ≤ length (now text) ⌝ }
+{
+    digit(text[i]) * 16 + digit(text[i + 1])
 }
 
 // The bytes of a run, at a place of the output, as far as it has room.
@@ -148,10 +159,22 @@ fn put_run(run: Run, out: &mut [u8], at: usize) -> usize
     let mut left = run.count;
     let mut end = at;
     while 0 < left {
-        end = put_text(&[byte], out, end);
+        end = put_byte(byte, out, end);
         left -= 1;
     }
     end
+}
+
+// A byte at a place of the output, if there is room.
+fn put_byte(byte: u8, out: &mut [u8], at: usize) -> usize
+    requires { ⌜ at ≤ length (now out) ⌝ }
+    ensures { λ r. ⌜ r ≤ length (now (out .exit)) ⌝ }
+{
+    if out.len() <= at {
+        return at;
+    }
+    out[at] = byte;
+    at + 1
 }
 
 // The number in two bytes, high first.
@@ -161,18 +184,9 @@ pub(crate) fn wide(high: u8, low: u8) -> usize
     high as usize * 256 + low as usize
 }
 
-// The byte of two hex digits.
-fn pair(high: u8, low: u8) -> u8 {
-    digit(high) * 16 + digit(low)
-}
-
-// The value of a hex digit.
+// The value of a hex digit: a letter has bit 6, and counts from 1.
 fn digit(c: u8) -> u8
     ensures { λ r. ⌜ r < 16 ⌝ }
 {
-    match c {
-        b'0'..=b'9' => c - b'0',
-        b'a'..=b'f' => c - b'a' + 10,
-        _ => 0,
-    }
+    (c % 16 + c / 64 * 9) % 16
 }

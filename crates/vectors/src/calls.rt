@@ -1,64 +1,72 @@
 // The calls, by their letters.
-use crate::answer::put_bytes;
-use crate::answer::put_counted;
-use crate::answer::put_digest;
-use crate::answer::put_next;
-use crate::answer::put_number;
-use crate::answer::put_refusal;
-use crate::answer::put_reply;
-use crate::answer::put_text;
+use crate::answer::behind;
+use crate::answer::print_bytes;
+use crate::answer::print_counted;
+use crate::answer::print_digest;
+use crate::answer::print_name;
+use crate::answer::print_number;
+use crate::answer::print_part;
+use crate::answer::print_refusal;
+use crate::answer::print_reply;
+use crate::answer::print_text;
 use crate::answer::start;
 use crate::argument::bytes;
 use crate::argument::letter;
 use crate::argument::number;
-use crate::ends::put_conversation;
-use crate::ends::put_play;
-use crate::runs::put_run;
+use crate::argument::size;
+use crate::ends::print_conversation;
+use crate::ends::print_play;
+use crate::runs::print_run;
 use block::Ending;
 use block::Reading;
-use block::Reassembled;
-use block::Reassembly;
 use block::checksum::check_characters;
 use block::checksum::checksum;
 use block::frame::information;
-use block::reassembly::reassemble;
-use block::segmentation::block_count;
+use journal::Step;
+use journal::cursor::RECORDS;
+use journal::held::step_at;
+use line::Checked;
 use line::Written;
-ghost use Prim.Native.Nat.{_≤_};
-ghost use lib.ListN.{length};
+use reassembly::Reassembled;
+use reassembly::Reassembly;
+use reassembly::reassemble;
+use segmentation::block_count;
+use segmentation::write_segment;
+use segmentation::write_segments;
 
 // What comes of a call. Its last argument is the text that the call is on.
-pub(crate) fn put_answer(call: &[u8], out: &mut [u8]) -> usize
-    ensures { λ r. ⌜ r ≤ length (now (out .exit)) ⌝ }
-{
+pub(crate) fn print_answer(call: &[u8]) {
     let mut space = io::large_buffer();
     let n = bytes(call, crate::argument::count(call), &mut space);
     let text = &space[..n];
     match letter(call, 0) {
-        b'c' => put_checksum(text, out),
-        b'r' => put_reading(text, out),
-        b'j' => put_reassembly(call, out),
-        b'y' => put_reply(reply::read(text), out, 0),
-        b'k' => put_check(text, out),
-        b'd' => put_conversation(call, out),
-        b'e' => put_play(call, out),
-        b'u' => put_run(call, text, out),
-        b'n' => put_bytes(journal::record::newest(text, number(call, 1)), out, 0),
-        b'o' => put_bytes(journal::record::oldest(text, number(call, 1)), out, 0),
-        _ => put_output(call, text, out),
+        b'c' => print_checksum(text),
+        b'r' => print_reading(text),
+        b'j' => print_reassembly(call),
+        b'y' => print_reply(reply::read(text)),
+        b'k' => print_check(text),
+        b'v' => print_walk(text),
+        b'd' | b'f' => print_conversation(call),
+        b'e' | b'g' => print_play(call),
+        b'u' => print_run(call, text),
+        b'n' => print_bytes(journal::record::newest(text, number(call, 1))),
+        b'o' => print_bytes(journal::record::oldest(text, number(call, 1))),
+        _ => print_output(call, text),
     }
 }
 
 // What a writer wrote into memory of the size that the first argument gives, or why nothing.
-fn put_output(call: &[u8], text: &[u8], out: &mut [u8]) -> usize
-    ensures { λ r. ⌜ r ≤ length (now (out .exit)) ⌝ }
-{
+fn print_output(call: &[u8], text: &[u8]) {
     let mut memory = io::large_buffer();
-    let size = number(call, 1);
-    let written = write(call, text, &mut memory[..size]);
+    let n = size(call, 1, &memory);
+    print_lent(call, text, &mut memory[..n]);
+}
+
+fn print_lent(call: &[u8], text: &[u8], memory: &mut [u8]) {
+    let written = write(call, text, memory);
     match written {
-        Written::Count(n) => put_written(call, text, start(&memory, n), out),
-        Written::Refused(refusal) => put_refusal(refusal, out, 0),
+        Written::Count(n) => print_written(call, text, start(memory, n)),
+        Written::Refused(refusal) => print_refusal(refusal),
     }
 }
 
@@ -67,68 +75,55 @@ fn write(call: &[u8], text: &[u8], memory: &mut [u8]) -> Written {
         b'p' => line::parity::set_parity(text, memory),
         b'q' => line::parity::clear_parity(text, memory),
         b'w' => block::frame::write(text, ending_of(letter(call, 2)), memory),
-        b's' => block::segmentation::write_segments(text, memory),
-        b't' => block::segmentation::write_segment(text, number(call, 2), memory),
+        b's' => write_segments(text, memory),
+        b't' => write_segment(text, number(call, 2), memory),
         _ => append(call, text, memory),
+    }
+}
+
+// The number of blocks before all blocks of a transaction, a journal by its digest.
+fn print_written(call: &[u8], text: &[u8], written: &[u8]) {
+    match letter(call, 0) {
+        b's' => {
+            print_number(block_count(text.len()));
+            print_text(b": ");
+            print_counted(written);
+        }
+        b'a' => print_digest(written),
+        _ => print_counted(written),
     }
 }
 
 // The journal that the second argument is, at the start of the memory, with the text appended.
 fn append(call: &[u8], text: &[u8], memory: &mut [u8]) -> Written {
     let length = bytes(call, 2, memory);
-    journal::append::append(memory, length, text)
-}
-
-// What was written: the number of blocks before all blocks of a transaction, a journal by its
-// digest.
-fn put_written(call: &[u8], text: &[u8], written: &[u8], out: &mut [u8]) -> usize
-    ensures { λ r. ⌜ r ≤ length (now (out .exit)) ⌝ }
-{
-    match letter(call, 0) {
-        b's' => put_blocks(block_count(text.len()), written, out),
-        b'a' => put_digest(written, out, 0),
-        _ => put_counted(written, out, 0),
-    }
-}
-
-fn put_blocks(count: usize, blocks: &[u8], out: &mut [u8]) -> usize
-    ensures { λ r. ⌜ r ≤ length (now (out .exit)) ⌝ }
-{
-    let at = put_number(count, out, 0);
-    let end = put_text(b": ", out, at);
-    put_counted(blocks, out, end)
+    append::append(memory, length, text)
 }
 
 // The checksum, and the characters that carry it.
-fn put_checksum(text: &[u8], out: &mut [u8]) -> usize
-    ensures { λ r. ⌜ r ≤ length (now (out .exit)) ⌝ }
-{
-    let at = put_number(checksum(text) as usize, out, 0);
+fn print_checksum(text: &[u8]) {
+    print_number(checksum(text) as usize);
     let check = check_characters(text);
-    put_next(&check, out, at)
+    print_part(&check);
 }
 
 // The ending and the information of the block that the text is.
-fn put_reading(text: &[u8], out: &mut [u8]) -> usize
-    ensures { λ r. ⌜ r ≤ length (now (out .exit)) ⌝ }
-{
+fn print_reading(text: &[u8]) {
     let reading = block::frame::read(text);
     match reading {
         Reading::Block(ending) => {
-            let at = put_ending(ending, out);
-            put_counted(information(text), out, at)
+            print_name(b"x |b |u ", ending_index(ending));
+            print_counted(information(text));
         }
-        Reading::Refused(refusal) => put_refusal(refusal, out, 0),
+        Reading::Refused(refusal) => print_refusal(refusal),
     }
 }
 
-fn put_ending(ending: Ending, out: &mut [u8]) -> usize
-    ensures { λ r. ⌜ r ≤ length (now (out .exit)) ⌝ }
-{
+fn ending_index(ending: Ending) -> usize {
     match ending {
-        Ending::Etx => put_text(b"x ", out, 0),
-        Ending::Etb => put_text(b"b ", out, 0),
-        Ending::Us => put_text(b"u ", out, 0),
+        Ending::Etx => 0,
+        Ending::Etb => 1,
+        Ending::Us => 2,
     }
 }
 
@@ -142,77 +137,73 @@ fn ending_of(letter: u8) -> Ending {
 
 // The blocks that the arguments are, joined one after the other: what comes of each, and what is
 // held at the end.
-fn put_reassembly(call: &[u8], out: &mut [u8]) -> usize
-    ensures { λ r. ⌜ r ≤ length (now (out .exit)) ⌝ }
-{
+fn print_reassembly(call: &[u8]) {
     let mut memory = [0; 2000];
     let count = crate::argument::count(call);
-    let mut state = block::reassembly::start();
-    let mut at = 0;
+    let mut state = reassembly::start();
     let mut index = 0;
     while index < count {
         index += 1;
-        let joined = join(call, index, state, &mut memory);
-        at = put_joined(joined, index, out, at);
-        state = after(state, joined);
+        state = join(call, index, state, &mut memory);
     }
-    put_next(start(&memory, state.length), out, at)
+    print_part(start(&memory, state.length));
 }
 
-fn join(call: &[u8], index: usize, state: Reassembly, memory: &mut [u8]) -> Reassembled {
+// One block more; a block that is refused changes nothing.
+fn join(call: &[u8], index: usize, state: Reassembly, memory: &mut [u8]) -> Reassembly {
     let mut block = [0; 512];
     let n = bytes(call, index, &mut block);
-    reassemble(state, &block[..n], memory)
-}
-
-// The state for the next block: a block that is refused changes nothing.
-fn after(state: Reassembly, joined: Reassembled) -> Reassembly {
+    print_name(b"|, ", (1 < index) as usize);
+    let joined = reassemble(state, &block[..n], memory);
     match joined {
-        Reassembled::Held(next) => next,
-        Reassembled::Refused(_) => state,
+        Reassembled::Next(next) => {
+            print_number(next.length);
+            print_name(b" part| whole", next.complete as usize);
+            next
+        }
+        Reassembled::Refused(refusal) => {
+            print_refusal(refusal);
+            state
+        }
     }
-}
-
-fn put_joined(joined: Reassembled, index: usize, out: &mut [u8], at: usize) -> usize
-    requires { ⌜ at ≤ length (now out) ⌝ }
-    ensures { λ r. ⌜ r ≤ length (now (out .exit)) ⌝ }
-{
-    let end = put_separator(index, out, at);
-    match joined {
-        Reassembled::Held(state) => put_state(state, out, end),
-        Reassembled::Refused(refusal) => put_refusal(refusal, out, end),
-    }
-}
-
-// What stands before all but the first.
-fn put_separator(index: usize, out: &mut [u8], at: usize) -> usize
-    requires { ⌜ at ≤ length (now out) ⌝ }
-    ensures { λ r. ⌜ r ≤ length (now (out .exit)) ⌝ }
-{
-    if index == 1 {
-        return at;
-    }
-    put_text(b", ", out, at)
-}
-
-fn put_state(state: Reassembly, out: &mut [u8], at: usize) -> usize
-    requires { ⌜ at ≤ length (now out) ⌝ }
-    ensures { λ r. ⌜ r ≤ length (now (out .exit)) ⌝ }
-{
-    let end = put_number(state.length, out, at);
-    if state.complete {
-        return put_text(b" whole", out, end);
-    }
-    put_text(b" part", out, end)
 }
 
 // The number of records of the journal that the text is.
-fn put_check(text: &[u8], out: &mut [u8]) -> usize
-    ensures { λ r. ⌜ r ≤ length (now (out .exit)) ⌝ }
-{
+fn print_check(text: &[u8]) {
     let checked = journal::record::check(text);
     match checked {
-        Written::Count(n) => put_number(n, out, 0),
-        Written::Refused(refusal) => put_refusal(refusal, out, 0),
+        Checked::Count(n) => print_number(n),
+        Checked::Refused(refusal) => print_refusal(refusal),
+    }
+}
+
+// The records of the journal that the text is, from the newest back, as the cursor that holds it meets them;
+// and how the walk ends.
+fn print_walk(text: &[u8]) {
+    let mut index = 0;
+    while index <= RECORDS {
+        if !print_place(text, step_at(text, index)) {
+            return;
+        }
+        index += 1;
+    }
+}
+
+// The record that a walk stands at, or why it has ended; and whether it goes on.
+fn print_place(journal: &[u8], at: Step) -> bool {
+    match at {
+        Step::Record(place) => {
+            print_bytes(start(behind(journal, place.start), place.length));
+            print_text(b" ");
+            true
+        }
+        Step::End => {
+            print_text(b"end");
+            false
+        }
+        Step::Refused(refusal) => {
+            print_refusal(refusal);
+            false
+        }
     }
 }

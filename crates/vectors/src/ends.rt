@@ -1,96 +1,164 @@
 // The calls on the two ends of the line: strings played to the central, replies played to the entry
-// device.
-use crate::answer::put_bytes;
-use crate::answer::put_digest;
-use crate::answer::put_number;
-use crate::answer::put_refusal;
-use crate::answer::put_reply;
-use crate::answer::put_text;
+// device; from the start, or from the state that the call gives.
+use crate::answer::print_buffer;
+use crate::answer::print_bytes;
+use crate::answer::print_item;
+use crate::answer::print_name;
+use crate::answer::print_number;
+use crate::answer::print_refusal;
+use crate::answer::print_reply;
+use crate::answer::print_text;
 use crate::answer::start;
 use crate::argument::bytes;
 use crate::argument::count;
+use crate::argument::letter;
 use crate::argument::number;
+use crate::argument::size;
 use crate::argument::wide;
 use central::Stage;
 use device::Given;
+use device::Place;
 use device::Report;
-use device::Verdict;
+use device::Step;
+use device::state::verdict_number;
+use journal::buffer::BUFFER;
 use line::Password;
 use line::Written;
-ghost use mathlib.Core.Path.{_≡_};
 ghost use Prim.Native.Nat.{_+_, _≤_};
 ghost use lib.ListN.{length};
 ghost use Rattle.io.specs.Counts.{Counts};
 
-// Which argument the journal is: the last before the strings.
+// Which argument the journal is: the last before the strings, or before the central's state.
 pub(crate) const JOURNAL: usize = 5;
 
-// Which argument the job is: the last before the replies.
+// Which argument is the last before the strings, where the central's state is given.
+const CENTRAL: usize = 12;
+
+// Which argument the job is: the last before the replies, or before the device's state.
 const JOB: usize = 3;
 
-// What the central answers to each string, and how it stands at the end.
-pub(crate) fn put_conversation(call: &[u8], out: &mut [u8]) -> usize
-    ensures { λ r. ⌜ r ≤ length (now (out .exit)) ⌝ }
-{
-    let mut journal = journal_buffer();
-    let mut answer = [0; 256];
-    let held = bytes(call, JOURNAL, &mut journal);
-    let count = count(call);
-    let mut state = central::step::start(held);
-    let mut at = 0;
-    let mut index = JOURNAL;
-    while index < count {
-        index += 1;
-        let stepped = hear(call, index, state, &mut journal, &mut answer);
-        let outcome = stepped.outcome;
-        at = put_answered(outcome, &answer, index, out, at);
-        state = stepped.state;
+// Which argument is the last before the replies, where the device's state is given.
+const DEVICE: usize = 8;
+
+// Room for pager numbers, one more than a list may have.
+pub(crate) const PAGERS: usize = 1001;
+
+// What an output holds before a step.
+const FILLER: u8 = 0xA5;
+
+// ── The central ──
+
+// A conversation from the start, or from the state that the call gives, in buffers of the sizes that
+// it gives.
+pub(crate) fn print_conversation(call: &[u8]) {
+    let mut journal = io::large_buffer();
+    let mut answer = [FILLER; 256];
+    if letter(call, 0) == b'd' {
+        let extent = io::count(BUFFER as isize, &journal);
+        converse(call, &mut journal[..extent], &mut answer);
+    } else {
+        let extent = size(call, 11, &journal);
+        let room = size(call, CENTRAL, &answer);
+        resume_conversation(call, &mut journal[..extent], &mut answer[..room]);
     }
-    put_central(state, &journal, out, at)
 }
 
-// The buffer that a journal grows in. The `ensures` gives only the length, which lending the array
-// needs.
-fn journal_buffer() -> [u8; 32004]
-    ensures { λ r. ⌜ 32004 ≡ length r ⌝ }
-{
-    [0; 32004]
+// From the start.
+fn converse(call: &[u8], journal: &mut [u8], answer: &mut [u8]) {
+    let held = bytes(call, JOURNAL, journal);
+    let first = central::step::start(held);
+    let state = hear_all(call, JOURNAL, first, journal, answer);
+    print_central(state, journal);
 }
 
-// The step of the central over the string that the word at an index is.
+// From the state that the call gives; and what the buffers hold at the end.
+fn resume_conversation(call: &[u8], journal: &mut [u8], answer: &mut [u8]) {
+    bytes(call, JOURNAL, journal);
+    let state = hear_all(call, CENTRAL, saved_central(call), journal, answer);
+    print_resumed(state, journal, answer);
+}
+
+// The state, and what the unfinished information and the buffers hold, by their digests.
+fn print_resumed(state: central::State, journal: &[u8], answer: &[u8]) {
+    let pending = state.pending;
+    print_central(state, journal);
+    print_item(state.journal);
+    print_buffer(start(&pending, state.length));
+    print_buffer(journal);
+    print_buffer(answer);
+}
+
+// The state that the arguments behind the journal are.
+fn saved_central(call: &[u8]) -> central::State {
+    let mut pending = [0; 2000];
+    bytes(call, 8, &mut pending);
+    central::State {
+        stage: stage_of(letter(call, 6)),
+        failures: number(call, 7),
+        pending,
+        length: number(call, 9),
+        journal: number(call, 10),
+    }
+}
+
+fn stage_of(letter: u8) -> Stage {
+    match letter {
+        b'i' => Stage::Idle,
+        b'l' => Stage::Logon,
+        b'b' => Stage::Block,
+        _ => Stage::Closed,
+    }
+}
+
+// What the central answers to each string behind an argument, and the state behind the last.
+fn hear_all(
+    call: &[u8],
+    before: usize,
+    first: central::State,
+    journal: &mut [u8],
+    answer: &mut [u8],
+) -> central::State {
+    let count = count(call);
+    let mut state = first;
+    let mut index = before;
+    while index < count {
+        print_name(b"| ", (before < index) as usize);
+        index += 1;
+        state = hear(call, index, state, journal, answer);
+    }
+    state
+}
+
+// The step of the central over the string that the word at an index is. Two bytes FF stand for the
+// driver's word that the line was dropped.
 fn hear(
     call: &[u8],
     index: usize,
     state: central::State,
     journal: &mut [u8],
     answer: &mut [u8],
-) -> central::Stepped {
-    let mut pagers = [0; 8];
+) -> central::State {
+    let mut pagers = [0; PAGERS];
     let listed = list_pagers(call, &mut pagers);
     let mut string = [0; 512];
     let k = bytes(call, index, &mut string);
-    if is_drop(&string[..k]) {
-        return central::Stepped {
-            outcome: Written::Count(0),
-            state: central::step::hang_up(state),
-        };
+    if (k == 2) & (number(call, index) == 0xFFFF) {
+        let dropped = central::step::hang_up(state, central_settings(call));
+        let outcome = dropped.outcome;
+        print_outcome(outcome, answer);
+        return dropped.state;
     }
-    central::step::step(
+    let stepped = central::step::step(
         state,
         central_settings(call),
         &pagers[..listed],
         journal,
         &string[..k],
         answer,
-    )
-}
-
-// Two bytes FF stand for the driver's word that the line was dropped.
-fn is_drop(string: &[u8]) -> bool {
-    if string.len() != 2 {
-        return false;
-    }
-    string[0] == 0xFF && string[1] == 0xFF
+    );
+    let outcome = stepped.outcome;
+    print_outcome(outcome, answer);
+    stepped.state
 }
 
 // The central's settings: the first three arguments.
@@ -104,19 +172,18 @@ pub(crate) fn central_settings(call: &[u8]) -> central::Settings {
 
 // The password that the word at an index is: where it is too long, its length says so.
 fn password(call: &[u8], index: usize) -> Password {
+    let mut characters = [0; 6];
+    bytes(call, index, &mut characters);
     let mut text = [0; 8];
     let length = bytes(call, index, &mut text);
-    Password {
-        characters: [text[0], text[1], text[2], text[3], text[4], text[5]],
-        length,
-    }
+    Password { characters, length }
 }
 
 // The pager list that the fourth argument is.
 pub(crate) fn list_pagers(call: &[u8], pagers: &mut [u32]) -> usize
     ensures { λ r. ⌜ Counts r (now (pagers .exit)) ⌝ }
 {
-    let mut numbers = [0; 32];
+    let mut numbers = [0; 4004];
     let n = bytes(call, 4, &mut numbers);
     read_pagers(&numbers[..n], pagers)
 }
@@ -147,71 +214,85 @@ fn pager_at(numbers: &[u8], i: usize) -> u32
     (high * 65536 + low) as u32
 }
 
-// What came of a step of the central, with a space before all but the first.
-fn put_answered(outcome: Written, answer: &[u8], index: usize, out: &mut [u8], at: usize) -> usize
-    requires { ⌜ at ≤ length (now out) ⌝ }
-    ensures { λ r. ⌜ r ≤ length (now (out .exit)) ⌝ }
-{
-    if index == JOURNAL + 1 {
-        return put_outcome(outcome, answer, out, at);
-    }
-    let end = put_text(b" ", out, at);
-    put_outcome(outcome, answer, out, end)
-}
-
 // The bytes that a step put out at the start of the memory, or why none.
-fn put_outcome(outcome: Written, memory: &[u8], out: &mut [u8], at: usize) -> usize
-    requires { ⌜ at ≤ length (now out) ⌝ }
-    ensures { λ r. ⌜ r ≤ length (now (out .exit)) ⌝ }
-{
+fn print_outcome(outcome: Written, memory: &[u8]) {
     match outcome {
-        Written::Count(n) => put_bytes(start(memory, n), out, at),
-        Written::Refused(refusal) => put_refusal(refusal, out, at),
+        Written::Count(n) => print_bytes(start(memory, n)),
+        Written::Refused(refusal) => print_refusal(refusal),
     }
 }
 
 // The stage, the failures, the length of what is unfinished, and the journal by its digest.
-fn put_central(state: central::State, journal: &[u8], out: &mut [u8], at: usize) -> usize
-    requires { ⌜ at ≤ length (now out) ⌝ }
-    ensures { λ r. ⌜ r ≤ length (now (out .exit)) ⌝ }
-{
+fn print_central(state: central::State, journal: &[u8]) {
     let stage = state.stage;
-    let staged = put_stage(stage, out, at);
-    let failed = put_number(state.failures, out, staged);
-    let spaced = put_text(b" ", out, failed);
-    let pending = put_number(state.length, out, spaced);
-    let end = put_text(b" ", out, pending);
-    put_digest(start(journal, state.journal), out, end)
+    print_name(b", idle|, logon|, block|, closed", stage_index(stage));
+    print_item(state.failures);
+    print_item(state.length);
+    print_buffer(start(journal, state.journal));
 }
 
-fn put_stage(stage: Stage, out: &mut [u8], at: usize) -> usize
-    requires { ⌜ at ≤ length (now out) ⌝ }
-    ensures { λ r. ⌜ r ≤ length (now (out .exit)) ⌝ }
-{
+fn stage_index(stage: Stage) -> usize {
     match stage {
-        Stage::Idle => put_text(b", idle ", out, at),
-        Stage::Logon => put_text(b", logon ", out, at),
-        Stage::Block => put_text(b", block ", out, at),
-        Stage::Closed => put_text(b", closed ", out, at),
+        Stage::Idle => 0,
+        Stage::Logon => 1,
+        Stage::Block => 2,
+        Stage::Closed => 3,
     }
 }
 
-// What the entry device sends first, and what it does with each reply; or why it does not start.
-pub(crate) fn put_play(call: &[u8], out: &mut [u8]) -> usize
-    ensures { λ r. ⌜ r ≤ length (now (out .exit)) ⌝ }
-{
+// ── The entry device ──
+
+// What the entry device sends first, or why it does not start; and what it does with each reply.
+pub(crate) fn print_play(call: &[u8]) {
     let mut space = io::large_buffer();
+    let mut string = [FILLER; 512];
     let n = bytes(call, JOB, &mut space);
-    let job = &space[..n];
-    let mut string = [0; 256];
-    let begun = device::step::start(device_settings(call, 1, 2), job, &mut string);
-    let outcome = begun.outcome;
-    let state = begun.state;
-    let at = put_outcome(outcome, &string, out, 0);
-    match outcome {
-        Written::Count(_) => put_replies(call, job, state, out, at),
-        Written::Refused(_) => at,
+    if letter(call, 0) == b'e' {
+        play(call, &space[..n], &mut string);
+    } else {
+        let room = size(call, DEVICE, &string);
+        resume_play(call, &space[..n], &mut string[..room]);
     }
+}
+
+// From the start.
+fn play(call: &[u8], job: &[u8], string: &mut [u8]) {
+    let begun = device::step::start(device_settings(call, 1, 2), job, string);
+    let outcome = begun.outcome;
+    print_outcome(outcome, string);
+    match outcome {
+        Written::Count(_) => {
+            take_all(call, JOB, begun.state, job, string);
+        }
+        Written::Refused(_) => {}
+    }
+}
+
+// From the state that the call gives; and the state and the output at the end.
+fn resume_play(call: &[u8], job: &[u8], string: &mut [u8]) {
+    let begun = device::step::start(device_settings(call, 1, 2), job, string);
+    let outcome = begun.outcome;
+    print_outcome(outcome, string);
+    let state = take_all(call, DEVICE, saved_device(call), job, string);
+    print_device(state);
+    print_buffer(string);
+}
+
+// The state that the arguments behind the job are.
+fn saved_device(call: &[u8]) -> device::State {
+    let place = Place {
+        transaction: number(call, 5),
+        block: number(call, 6),
+        attempts: number(call, 7),
+    };
+    let step = match letter(call, 4) {
+        b'o' => Step::Opening(place),
+        b'l' => Step::Logon(place),
+        b's' => Step::Sending(place),
+        b'c' => Step::Closing(place),
+        _ => Step::Stopped,
+    };
+    device::State { step }
 }
 
 // The entry device's settings, by the indices of the words that they are.
@@ -226,23 +307,22 @@ pub(crate) fn device_settings(
     }
 }
 
-// What comes of each reply, from a state on.
-fn put_replies(call: &[u8], job: &[u8], first: device::State, out: &mut [u8], at: usize) -> usize
-    requires { ⌜ at ≤ length (now out) ⌝ }
-    ensures { λ r. ⌜ r ≤ length (now (out .exit)) ⌝ }
-{
-    let mut string = [0; 256];
+// What comes of each reply behind an argument, and the state behind the last.
+fn take_all(
+    call: &[u8],
+    before: usize,
+    first: device::State,
+    job: &[u8],
+    string: &mut [u8],
+) -> device::State {
     let count = count(call);
     let mut state = first;
-    let mut end = at;
-    let mut index = JOB;
+    let mut index = before;
     while index < count {
         index += 1;
-        let stepped = take(call, index, state, job, &mut string);
-        end = put_taken(stepped, &string, out, end);
-        state = stepped.state;
+        state = take(call, index, state, job, string);
     }
-    end
+    state
 }
 
 // The step of the entry device over the reply that the word at an index is.
@@ -252,60 +332,53 @@ fn take(
     state: device::State,
     job: &[u8],
     string: &mut [u8],
-) -> device::Stepped {
+) -> device::State {
     let mut reply = [0; 512];
     let n = bytes(call, index, &mut reply);
-    device::step::step(state, device_settings(call, 1, 2), job, &reply[..n], string)
-}
-
-fn put_taken(stepped: device::Stepped, string: &[u8], out: &mut [u8], at: usize) -> usize
-    requires { ⌜ at ≤ length (now out) ⌝ }
-    ensures { λ r. ⌜ r ≤ length (now (out .exit)) ⌝ }
-{
+    let stepped = device::step::step(state, device_settings(call, 1, 2), job, &reply[..n], string);
     let outcome = stepped.outcome;
     let given = stepped.given;
     let report = stepped.report;
-    let begin = put_text(b", ", out, at);
-    let said = put_given(given, report, out, begin);
-    let end = put_text(b" ", out, said);
-    put_outcome(outcome, string, out, end)
+    print_text(b", ");
+    print_given(given, report);
+    print_text(b" ");
+    print_outcome(outcome, string);
+    stepped.state
 }
 
 // The verdict that a step gives, or the reply to the close that it reports, or `-`.
-fn put_given(given: Given, report: Report, out: &mut [u8], at: usize) -> usize
-    requires { ⌜ at ≤ length (now out) ⌝ }
-    ensures { λ r. ⌜ r ≤ length (now (out .exit)) ⌝ }
-{
+fn print_given(given: Given, report: Report) {
     match given {
         Given::Verdict(transaction, verdict) => {
-            let named = put_number(transaction, out, at);
-            let end = put_text(b"=", out, named);
-            put_number(verdict_number(verdict), out, end)
+            print_number(transaction);
+            print_text(b"=");
+            print_number(verdict_number(verdict) as usize);
         }
-        Given::Nothing => put_report(report, out, at),
+        Given::Nothing => match report {
+            Report::Close(reply) => {
+                print_text(b"closed ");
+                print_reply(reply);
+            }
+            Report::Nothing => print_text(b"-"),
+        },
     }
 }
 
-fn put_report(report: Report, out: &mut [u8], at: usize) -> usize
-    requires { ⌜ at ≤ length (now out) ⌝ }
-    ensures { λ r. ⌜ r ≤ length (now (out .exit)) ⌝ }
-{
-    match report {
-        Report::Close(reply) => {
-            let end = put_text(b"closed ", out, at);
-            put_reply(reply, out, end)
-        }
-        Report::Nothing => put_text(b"-", out, at),
+// The step, with its transaction, block and attempts.
+fn print_device(state: device::State) {
+    let step = state.step;
+    match step {
+        Step::Opening(place) => print_place(0, place),
+        Step::Logon(place) => print_place(1, place),
+        Step::Sending(place) => print_place(2, place),
+        Step::Closing(place) => print_place(3, place),
+        Step::Stopped => print_text(b", stopped"),
     }
 }
 
-// Document 01's number of a verdict.
-fn verdict_number(verdict: Verdict) -> usize {
-    match verdict {
-        Verdict::Accepted => 1,
-        Verdict::Rejected => 2,
-        Verdict::Unconfirmed => 3,
-        Verdict::Deferred => 4,
-        Verdict::Unsent => 5,
-    }
+fn print_place(index: usize, place: Place) {
+    print_name(b", opening|, logon|, sending|, closing", index);
+    print_item(place.transaction);
+    print_item(place.block);
+    print_item(place.attempts);
 }

@@ -1,21 +1,12 @@
--- `finish` is safe: what waits lies within the output's memory, with the last line printed or without it.
-use mathlib.Core.Logic.{⊎-elim}
-use mathlib.Core.Path.{_≡_, sym}
-use Prim.Native.Nat.{_≤_}
-use lib.ListN.{length}
+-- `finish` meets its contract: a last line is printed where a character of it is kept, and else what waits stays as it is.
+use mathlib.Core.Path.{sym}
+use native.Mathlib.Omega.{arith}
+use borrow.Author.Tests.{lt-ltb, le-ltb}
 use lib.Seq.{length-take-le}
-use Rattle.line.proofs.LaidLaws.{laid-within}
+use Rattle.line.proofs.OverlayLaws.{overlay-own}
 use borrow.Author.Needs.{needs}
 use Rattle.blocks.proofs.finish.Statement.{statement}
 use Rattle.blocks.proofs.finish.Tie as tie
-
--- what waits at the end lies within the output's memory
-waits : (c : tie.Joined1) → (length (c .if1 .out) ≡ length (c .before .before .before .args .out .now)) × (c .if1 .waiting ≤ length (c .if1 .out))
-waits c =
-    ⊎-elim
-    (λ w. (rw (w .6) (w .3 .kept .1 .0), rw (w .6, w .7) (laid-within (w .3 .ensures))))
-    (λ w. (rw (w .1), rw (w .1, w .2) (c .before .before .before .pre .waits)))
-    (c .if1 .came)
 
 slice-aggregate-print : tie.Need-slice-aggregate-print
 slice-aggregate-print c = sym (length-take-le _ _ (c .before .before .before .before .pre .keeps))
@@ -23,29 +14,20 @@ slice-aggregate-print c = sym (length-take-le _ _ (c .before .before .before .be
 print-requires : tie.Need-print-requires
 print-requires c κs = search needs
 
-slice-reshare-prefix-write-all : tie.Need-slice-reshare-prefix-write-all
-slice-reshare-prefix-write-all c = waits c .1
-
-slice-aggregate-write-all : tie.Need-slice-aggregate-write-all
-slice-aggregate-write-all c = sym (length-take-le _ _ (waits (c .before) .1))
-
-write-all-requires : tie.Need-write-all-requires
-write-all-requires c κs = search needs
-
 same-length : tie.Need-same-length
-same-length c = waits (c .before .before) .0
+same-length c = search needs
 
 returns : tie.Need-returns
-returns c = search needs
+returns c =
+    let s = c .before .before .before .before .before .before .before .before in
+    let kept = length-take-le (s .args .filled .kept) (s .args .line .now) (s .pre .keeps) in
+    rw (kept, lt-ltb 0 (s .args .filled .kept) (omega (arith, c .before .before .before .before .before .if1 .taken))) (c .before .before .print .ensures)
+
+returns-2 : tie.Need-returns-2
+returns-2 c =
+    let s = c .before .before .before in
+    let kept = length-take-le (s .args .filled .kept) (s .args .line .now) (s .pre .keeps) in
+    rw (kept, le-ltb 0 (s .args .filled .kept) (omega arith)) (record { counts = sym (length-take-le _ _ (s .pre .waits)); leaves = overlay-own _ _ (s .pre .waits) })
 
 pub finish-spec : {M : Type 1} → statement M
-finish-spec =
-    tie.close
-    (tie.spec
-    slice-aggregate-print
-    print-requires
-    slice-reshare-prefix-write-all
-    slice-aggregate-write-all
-    write-all-requires
-    same-length
-    returns)
+finish-spec = tie.close (tie.spec slice-aggregate-print print-requires same-length returns returns-2)

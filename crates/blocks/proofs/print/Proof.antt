@@ -15,17 +15,22 @@ use borrow.Author.Needs.{needs}
 use Rattle.blocks.proofs.print.Statement.{statement}
 use Rattle.blocks.proofs.print.Tie as tie
 
--- how many of the waiting bytes stay, and that any line's listing has room behind them
+-- what waits still, and that any line's listing has room behind them
 room : (c : tie.Joined1) →
     let a = c .before .before .before .args in
-    (c .if1 .at ≡ stays (a .waiting) (length (a .out .now))) × (c .if1 .at + 10248 ≤ length (a .out .now))
+    (take (c .if1 .at) (a .out .now) ≡ stays (length (a .out .now)) (take (a .waiting) (a .out .now))) × (c .if1 .at + 10248 ≤ length (a .out .now))
 unfolding stays
 room c =
     let a = c .before .before .before .args in
     let (waits, fits) = c .before .before .before .pre in
+    let long = length-take-le (a .waiting) (a .out .now) waits in
     ⊎-elim
-    (λ w. (rw (lt-ltb (length (a .out .now)) (a .waiting + 10248) (w .0 .taken)) (omega arith), omega arith))
-    (λ w. (rw (le-ltb (length (a .out .now)) (a .waiting + 10248) (w .0 .left)) (omega arith), omega arith))
+    (λ w.
+    let none : c .if1 .at ≡ 0 = omega arith in
+    (rw (long, lt-ltb (length (a .out .now)) (a .waiting + 10248) (w .0 .taken), none), omega arith))
+    (λ w.
+    let same : c .if1 .at ≡ a .waiting = omega arith in
+    (rw (long, le-ltb (length (a .out .now)) (a .waiting + 10248) (w .0 .left), same), omega arith))
     (c .if1 .came)
 
 -- so the listing is made

@@ -1,21 +1,22 @@
 -- `take` meets its contract: at each turn what is kept, what was written and what waits, and the rest of the piece, decide. What is kept and what waits lie within their memory.
 -- The measure is the rest of the piece: a turn takes at least one byte of it.
-use mathlib.Core.List.{List, [], _++_, append-assoc}
-use mathlib.Core.Path.{_≡_, refl, sym, ap, _∙_}
+use mathlib.Core.List.{List, [], _++_}
+use mathlib.Core.Path.{_≡_, refl, sym, _∙_}
 use Prim.Native.Nat.{ℕ, _+_, _-_, _≤_}
 use native.Mathlib.Omega.{arith}
 use lib.ListN.{length, take, drop, drop-of-length-le}
 use lib.Seq.{length-take-le}
-use Rattle.listing.specs.Listing.{listing}
-use Rattle.blocks.specs.Lines.{taken}
-use Rattle.blocks.proofs.LineLaws.{found-within, taken-part, taken-line, waits-behind}
+use Rattle.blocks.specs.Lines.{leaves, taken, stand}
+use Rattle.blocks.proofs.LineLaws.{state, found-within, taken-part, taken-line}
 use Rattle.line.proofs.LaidLaws.{laid-start, laid-within}
 use borrow.Author.Needs.{needs}
 use Rattle.blocks.proofs.take.Statement.{statement}
 use Rattle.blocks.proofs.take.Tie as tie
 
 abbrev Inv-loop : tie.InvT-loop
-Inv-loop piece line₀ out₀ kept₀ waiting₀ at₀ line out kept waiting at = (length line ≡ length line₀) × (length out ≡ length out₀) × (kept ≤ length line₀) × (waiting ≤ length out₀) × (written : List ℕ) × (taken (length line₀) (take kept₀ line₀) (take waiting₀ out₀) piece ≡ taken (length line₀) (take kept line) (written ++ take waiting out) (drop at piece))
+Inv-loop piece line₀ out₀ kept₀ waiting₀ at₀ line out kept waiting at =
+    (length line ≡ length line₀) × (length out ≡ length out₀) × (kept ≤ length line₀) × (waiting ≤ length out₀) × (written : List ℕ) ×
+    (taken (length out₀) (state (take kept₀ line₀) [] (take waiting₀ out₀)) piece ≡ taken (length out₀) (state (take kept line) written (take waiting out)) (drop at piece))
 
 abbrev μ-loop : tie.MeasureT-loop
 μ-loop piece line₀ out₀ kept₀ waiting₀ at₀ line out kept waiting at = length piece - at
@@ -40,20 +41,22 @@ held c =
 kept-right : (c : tie.After-keep Inv-loop μ-loop) →
     let a = c .before .before .before .before .before .before .before .before .before .args in
     let l = c .before .before .before .before .before .loop in
-    let room = length (a .line .now) in
-    taken room (take (a .filled .kept) (a .line .now)) (take (a .filled .waiting) (a .out .now)) (a .piece .now) ≡
-    taken room (take (c .keep .result) (c .keep .last .1 .0)) (l .inv .4 ++ take (l .waiting) (l .out)) (drop (c .before .before .before .find .result) (a .piece .now))
+    let room = length (a .out .now) in
+    taken room (stand [] (a .filled) (a .line .now) (a .out .now)) (a .piece .now) ≡
+    taken room (state (take (c .keep .result) (c .keep .last .1 .0)) (l .inv .4) (take (l .waiting) (l .out))) (drop (c .before .before .before .find .result) (a .piece .now))
 kept-right c =
-    let a = c .before .before .before .before .before .before .before .before .before .args in
+    let s = c .before .before .before .before .before .before .before .before .before in
+    let a = s .args in
     let l = c .before .before .before .before .before .loop in
     let f = c .before .before .before .find in
     let (long, _, keeps, _, written, right) = l .inv in
-    let room = length (a .line .now) in
-    let waits = written ++ take (l .waiting) (l .out) in
+    let room = length (a .out .now) in
+    let whole : length (l .line) ≡ 2000 = long ∙ s .pre .lines in
+    let waits = take (l .waiting) (l .out) in
     let front = length-take-le (l .kept) (l .line) (rw long keeps) in
-    let next = taken-part (a .piece .now) (l .at) (f .result) (f .ensures) room (take (l .kept) (l .line)) waits (omega arith) in
-    let text = rw long at (laid-start (c .keep .ensures)) in
-    right ∙ next ∙ ap (λ k. taken room k waits (drop (f .result) (a .piece .now))) (sym text)
+    let next = taken-part (a .piece .now) (l .at) (f .result) (f .ensures) room (take (l .kept) (l .line)) written waits (omega arith) in
+    let text = rw whole at (laid-start (c .keep .ensures)) in
+    right ∙ rw text next
 
 -- what waits lies within the output's memory
 printed : (c : tie.After-print Inv-loop μ-loop) →
@@ -68,25 +71,21 @@ printed c =
 -- and is what should be printed of the piece so far
 printed-right : (c : tie.After-print Inv-loop μ-loop) →
     let f = c .before .before .before .before .before .before .before .before .before in
+    let l = f .before .before .loop in
     let a = f .before .before .before .before .before .before .args in
-    let room = length (a .line .now) in
-    (written : List ℕ) ×
-    (taken room (take (a .filled .kept) (a .line .now)) (take (a .filled .waiting) (a .out .now)) (a .piece .now) ≡
-    taken room [] (written ++ take (c .print .result) (c .print .last .1 .0)) (drop (f .find .result + 1) (a .piece .now)))
+    let room = length (a .out .now) in
+    taken room (stand [] (a .filled) (a .line .now) (a .out .now)) (a .piece .now) ≡
+    taken room (state [] (l .inv .4 ++ leaves room (take (l .waiting) (l .out))) (take (c .print .result) (c .print .last .1 .0))) (drop (f .find .result + 1) (a .piece .now))
 printed-right c =
     let e = c .before .before .before in
     let k = e .before .before .before in
     let f = k .before .before .before in
     let l = f .before .before .loop in
-    let piece = f .before .before .before .before .before .before .args .piece .now in
-    let room = length (f .before .before .before .before .before .before .args .line .now) in
+    let a = f .before .before .before .before .before .before .args in
+    let room = length (a .out .now) in
     let line = take (k .keep .result) (k .keep .last .1 .0) in
-    let w = l .inv .4 in
-    let waits = take (l .waiting) (l .out) in
-    let end = taken-line piece (l .at) (f .find .result) (f .find .ensures) room line (w ++ waits) (e .if1 .taken) in
-    let (written, behind) = waits-behind (l .waiting) (length (l .out)) (listing line) (c .print .ensures) in
-    let joined = append-assoc w waits (listing line) ∙ ap (λ t. w ++ t) behind ∙ sym (append-assoc w written (take (c .print .result) (c .print .last .1 .0))) in
-    (w ++ written, kept-right k ∙ end ∙ ap (λ p. taken room [] p (drop (f .find .result + 1) piece)) joined)
+    let end = taken-line (a .piece .now) (l .at) (f .find .result) (f .find .ensures) room (state line (l .inv .4) (take (l .waiting) (l .out))) (e .if1 .taken) in
+    kept-right k ∙ end ∙ rw (laid-start (c .print .ensures), l .inv .1)
 
 loop-holds : tie.Need-loop-holds Inv-loop μ-loop
 loop-holds c = (refl, refl, c .before .before .before .pre .keeps, c .before .before .before .pre .waits, [], refl)
@@ -133,8 +132,7 @@ loop-again : tie.Need-loop-again Inv-loop μ-loop
 loop-again c =
     let (out, waits) = printed (c .before .before) in
     let (line, keeps) = held (c .before .before .before .before .before .before .before .before) in
-    let (written, right) = printed-right (c .before .before) in
-    (line, out, omega arith, waits, written, right)
+    (line, out, omega arith, waits, _, printed-right (c .before .before))
 
 loop-less-2 : tie.Need-loop-less-2 Inv-loop μ-loop
 loop-less-2 c =
@@ -162,7 +160,7 @@ returns c =
     let start = c .before .before .before .before .before .pre in
     let none = drop-of-length-le (a .piece .now) (c .loop-test .left) in
     record {
-      within = record { keeps = rw line keeps; waits = rw out waits; prints = rw out (start .prints) };
+      within = record { keeps = rw line keeps; lines = line ∙ start .lines; waits = rw out waits; prints = rw out (start .prints) };
       written = written;
       right = right ∙ rw none;
     }

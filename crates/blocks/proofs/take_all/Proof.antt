@@ -17,7 +17,9 @@ abbrev μ-loop : tie.MeasureT-loop
 
 loop-holds : tie.Need-loop-holds Inv-loop μ-loop
 unfolding taken
-loop-holds c = (refl, refl, refl, [], record { within = record { keeps = search needs; waits = search needs; prints = c .before .before .before .pre }; written = []; right = refl })
+loop-holds c =
+    let (lines, prints) = c .before .before .before .pre in
+    (refl, refl, refl, [], record { within = record { keeps = search needs; lines = lines; waits = search needs; prints = prints }; written = []; right = refl })
 
 read-requires : tie.Need-read-requires Inv-loop μ-loop
 read-requires c κs = search needs
@@ -46,7 +48,7 @@ loop-again c =
     let l = c .before .before .before .before .before .before .before .before .before .before .before .before .before .before .before .before .loop in
     let (_, line, out, text, took) = l .inv in
     let read = c .before .before .before .before .before .before .before .before .before .before .before .before .before .read in
-    (read .kept .1 .0 ∙ l .inv .0, take .kept .1 .0 ∙ line, take .kept .1 .1 .0 ∙ out, _, took-append line took (take .ensures))
+    (read .kept .1 .0 ∙ l .inv .0, take .kept .1 .0 ∙ line, take .kept .1 .1 .0 ∙ out, _, took-append out took (take .ensures))
 
 same-length : tie.Need-same-length Inv-loop μ-loop
 same-length c = c .before .loop .inv .0

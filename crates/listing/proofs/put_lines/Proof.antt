@@ -5,12 +5,14 @@ use Prim.Native.Nat.{_+_, _-_, _*_, _≤_, _<_}
 use native.Mathlib.Omega.{arith}
 use borrow.Rule.Slice.PartMut.{putMid}
 use lib.ListN.{length, take}
+use lib.Seq.{take-all}
 use Rattle.line.specs.Answer.{Laid}
 use Rattle.line.proofs.FlatLaws.{flat-turn}
 use Rattle.line.proofs.LaidLaws.{part-length, laid-none}
-use Rattle.block.specs.Segmentation.{blockCount, segment, segmentation}
+use Rattle.block.specs.Segments.{segment}
 use Rattle.block.specs.declared.frame.Ending.the-variants.{Etx}
-use Rattle.block.proofs.SegmentationLaws.{blocks-at, blocks-length, segmentation-count, segmentation-whole}
+use Rattle.segmentation.specs.Segmentation.{segmentation}
+use Rattle.segmentation.proofs.SegmentationLaws.{blocks-at, segmentation-length, segmentation-count}
 use Rattle.listing.specs.Listing.{printedBlock}
 use Rattle.listing.proofs.ListingLaws.{printed-length}
 use borrow.Author.Needs.{needs}
@@ -24,10 +26,10 @@ abbrev μ-loop : tie.MeasureT-loop
 μ-loop info blocks out₀ count index₀ at₀ out index at = count - index
 
 -- there is a block at the index
-within : (c : tie.In-loop Inv-loop μ-loop) → c .before .loop .index < blockCount (length (c .before .before .before .before .before .before .args .info .now))
+within : (c : tie.In-loop Inv-loop μ-loop) → c .before .loop .index < length (segmentation (c .before .before .before .before .before .before .args .info .now))
 within c =
     let count = c .before .before .block-count .ensures in
-    omega arith
+    omega (arith, segmentation-count (c .before .before .before .before .before .before .args .info .now))
 
 -- and it has room: there are at most eight
 room : (c : tie.In-loop Inv-loop μ-loop) → c .before .loop .at + 1281 ≤ length (c .before .loop .out)
@@ -50,7 +52,7 @@ turn c =
     let place = within d in
     let fits = room d in
     let block = rw (s .pre .1, blocks-at t (l .index) place) at (c .before .before .put-printed .ensures) in
-    flat-turn printedBlock 1281 (segmentation t) (segment [] Etx) (l .index) (printed-length t (l .index) place) (rw (segmentation-count t) place) (omega arith) (l .inv .3) block
+    flat-turn printedBlock 1281 (segmentation t) (segment [] Etx) (l .index) (printed-length t (l .index) place) place (omega arith) (l .inv .3) block
 
 block-count-requires : tie.Need-block-count-requires Inv-loop μ-loop
 block-count-requires c κs = search needs
@@ -73,7 +75,7 @@ put-printed-requires c κs =
     let l = c .before .before .loop in
     let s = c .before .before .before .before .before .before .before in
     let place = within (c .before) in
-    (rw (s .pre .1, blocks-length (s .args .info .now)) (omega arith), rw (part-length (l .at) (l .out)) (omega (arith, room (c .before))))
+    (rw (s .pre .1, segmentation-length (s .args .info .now)) (omega (arith, segmentation-count (s .args .info .now))), rw (part-length (l .at) (l .out)) (omega (arith, room (c .before))))
 
 add-at : tie.Need-add-at Inv-loop μ-loop
 add-at c = omega (arith, turn c .0, room (c .before .before .before .before))
@@ -95,7 +97,7 @@ returns c =
     let l = c .before .loop in
     let b = c .before .before in
     let t = b .before .before .before .before .args .info .now in
-    rw (segmentation-whole t (l .index) (omega (arith, b .block-count .ensures))) at (l .inv .3)
+    rw (take-all (l .index) (segmentation t) (omega (arith, b .block-count .ensures, segmentation-count t))) at (l .inv .3)
 
 pub put-lines-spec : {M : Type 1} → statement M
 put-lines-spec =

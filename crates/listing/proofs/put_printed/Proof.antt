@@ -8,7 +8,7 @@ use lib.ListN.{length, take, drop, length-take, length-drop}
 use Rattle.line.specs.Answer.{Laid}
 use Rattle.line.proofs.FlatLaws.{flat-bound}
 use Rattle.line.proofs.LaidLaws.{laid-length, laid-snoc}
-use Rattle.block.proofs.SegmentationLaws.{take-min}
+use Rattle.line.proofs.ListLaws.{take-min}
 use Rattle.listing.specs.Listing.{shown}
 use Rattle.listing.proofs.ListingLaws.{shown-length}
 use borrow.Author.Needs.{needs}

@@ -11,7 +11,7 @@ use lib.Seq.{drop-cons}
 use Rattle.line.specs.Character.{CR, LF}
 use Rattle.line.specs.Test.{same}
 use Rattle.reply.proofs.TextLaws.{ends-behind}
-use Rattle.line.proofs.AllLaws.{none-left}
+use Rattle.line.proofs.SameLaws.{none-left}
 use Rattle.reply.proofs.ends_at.Statement.{statement}
 use Rattle.reply.proofs.ends_at.Tie as tie
 

@@ -1,6 +1,6 @@
 -- `finishes_at` meets its contract: at the end nothing follows, and before it something does.
 use borrow.Author.Tests.{le-leb, lt-leb}
-use Rattle.line.proofs.AllLaws.{none-left}
+use Rattle.line.proofs.SameLaws.{none-left}
 use borrow.Author.Needs.{needs}
 use Rattle.reply.proofs.finishes_at.Statement.{statement}
 use Rattle.reply.proofs.finishes_at.Tie as tie

@@ -1,7 +1,7 @@
 -- `read` meets its contract: what cannot be taken off the line is not recognized, and what was taken off it lies at the start of the memory.
 use mathlib.Core.Path.{sym, ap, _∙_}
 use lib.Seq.{length-take-le}
-use Rattle.reply.specs.Reading.{named, replyRead}
+use Rattle.reply.specs.Reading.{recognizedIn, replyRead}
 use Rattle.line.proofs.OverlayLaws.{refused-only, counted-start}
 use borrow.Author.Needs.{needs}
 use Rattle.reply.proofs.read.Statement.{statement}
@@ -22,7 +22,7 @@ enum-told c = search needs
 returns : tie.Need-returns
 unfolding replyRead
 returns c =
-    sym (ap named (refused-only _ _ (c .enum-told .given .1) (c .before .before .before .clear-parity .ensures)))
+    sym (ap recognizedIn (refused-only _ _ (c .enum-told .given .1) (c .before .before .before .clear-parity .ensures)))
 
 array-share-prefix-text : tie.Need-array-share-prefix-text
 array-share-prefix-text c =
@@ -41,7 +41,7 @@ unfolding replyRead
 returns-2 c =
     let d = c .before .before .before in
     let taken-off = counted-start _ _ (d .n .given .1) (d .before .before .before .clear-parity .ensures) .1 in
-    c .read-text .ensures ∙ sym (ap named taken-off)
+    c .read-text .ensures ∙ sym (ap recognizedIn taken-off)
 
 pub read-spec : {M : Type 1} → statement M
 read-spec =

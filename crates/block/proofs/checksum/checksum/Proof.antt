@@ -13,17 +13,17 @@ use Rattle.block.proofs.checksum.checksum.Statement.{statement}
 use Rattle.block.proofs.checksum.checksum.Tie as tie
 
 -- the sum of what is still to come: the next character's value and the sum of those behind it
-sum-next : (text : List ℕ) (i : ℕ) → i < length text → Checksum.sum (drop i text) ≡ sevenBits (getD text i 0) + Checksum.sum (drop (i + 1) text)
-unfolding Checksum.sum
+sum-next : (text : List ℕ) (i : ℕ) → i < length text → Checksum.valueSum (drop i text) ≡ sevenBits (getD text i 0) + Checksum.valueSum (drop (i + 1) text)
+unfolding Checksum.valueSum
 sum-next text i h = rw (add-one, drop-cons text i 0 h)
 
 -- nothing is still to come
-sum-none : (text : List ℕ) (i : ℕ) → length text ≤ i → Checksum.sum (drop i text) ≡ 0
-unfolding Checksum.sum
+sum-none : (text : List ℕ) (i : ℕ) → length text ≤ i → Checksum.valueSum (drop i text) ≡ 0
+unfolding Checksum.valueSum
 sum-none text i h = rw (drop-of-length-le text h)
 
 abbrev Inv-loop : tie.InvT-loop
-Inv-loop text sum₀ i₀ sum i = (i ≤ length text) × (sum < 4096) × ((sum + Checksum.sum (drop i text)) % 4096 ≡ Checksum.checksum text)
+Inv-loop text sum₀ i₀ sum i = (i ≤ length text) × (sum < 4096) × ((sum + Checksum.valueSum (drop i text)) % 4096 ≡ Checksum.checksum text)
 
 abbrev μ-loop : tie.MeasureT-loop
 μ-loop text sum₀ i₀ sum i = length text - i

@@ -1,7 +1,5 @@
--- `has_check` meets its contract: the three characters are tested one after the other.
+-- `has_check` meets its contract: its three tests are those of the three characters.
 use mathlib.Core.Bool.{and-true}
-use mathlib.Core.Path.{sym, _∙_}
-use borrow.Author.Tests.{not-true, not-false}
 use Rattle.line.specs.Test.{all}
 use Rattle.block.proofs.FrameLaws.{check-three}
 use borrow.Author.Needs.{needs}
@@ -17,12 +15,6 @@ shared-slice-read-is-check c = search needs
 is-check-requires : tie.Need-is-check-requires
 is-check-requires c κs = search needs
 
-returns : tie.Need-returns
-unfolding all
-returns c =
-    let a = c .before .before .before .before in
-    rw (check-three (a .args .s .now) (a .pre), sym (c .before .is-check .ensures) ∙ not-true _ (c .if1 .taken))
-
 sub-is-check-2 : tie.Need-sub-is-check-2
 sub-is-check-2 c = search needs
 
@@ -31,14 +23,6 @@ shared-slice-read-is-check-2 c = search needs
 
 is-check-requires-2 : tie.Need-is-check-requires-2
 is-check-requires-2 c κs = search needs
-
-returns-2 : tie.Need-returns-2
-unfolding all
-returns-2 c =
-    let d = c .before .before .before in
-    let a = d .before .before .before .before in
-    let first = sym (d .before .is-check .ensures) ∙ not-false _ (d .if1 .left) in
-    rw (check-three (a .args .s .now) (a .pre), first, sym (c .before .is-check2 .ensures) ∙ not-true _ (c .if2 .taken))
 
 sub-is-check-3 : tie.Need-sub-is-check-3
 sub-is-check-3 c = search needs
@@ -49,15 +33,11 @@ shared-slice-read-is-check-3 c = search needs
 is-check-requires-3 : tie.Need-is-check-requires-3
 is-check-requires-3 c κs = search needs
 
-returns-3 : tie.Need-returns-3
+returns : tie.Need-returns
 unfolding all
-returns-3 c =
-    let e = c .before .before in
-    let d = e .before .before .before in
-    let a = d .before .before .before .before in
-    let first = sym (d .before .is-check .ensures) ∙ not-false _ (d .if1 .left) in
-    let second = sym (e .before .is-check2 .ensures) ∙ not-false _ (e .if2 .left) in
-    rw (check-three (a .args .s .now) (a .pre), first, second, ← c .is-check3 .ensures, and-true)
+returns c =
+    let a = c .before .before .before .before .before .before .before in
+    rw (check-three (a .args .s .now) (a .pre), and-true, c .before .before .before .before .is-check .ensures, c .before .before .is-check2 .ensures, c .is-check3 .ensures)
 
 pub has-check-spec : {M : Type 1} → statement M
 has-check-spec =
@@ -66,12 +46,10 @@ has-check-spec =
     sub-is-check
     shared-slice-read-is-check
     is-check-requires
-    returns
     sub-is-check-2
     shared-slice-read-is-check-2
     is-check-requires-2
-    returns-2
     sub-is-check-3
     shared-slice-read-is-check-3
     is-check-requires-3
-    returns-3)
+    returns)

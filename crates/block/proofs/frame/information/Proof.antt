@@ -1,14 +1,13 @@
--- `information` meets its contract: where the reader finds a block, its information stands between STX and the last five; else there is none.
+-- `information` meets its contract: where the reader finds a block, its information is what stands inside; else there is none.
 use mathlib.Core.List.{List, []}
-use mathlib.Core.Path.{_≡_, refl, ap, _∙_}
+use mathlib.Core.Path.{_≡_, refl, _∙_}
 use Prim.Native.Nat.{ℕ, _≤_}
 use lib.ListN.{length}
 use Rattle.line.specs.Answer.{Outcome, done, refused, mapDone, output}
 use Rattle.block.specs.Block.{Segment, Handed, inside, readBlock}
 use Rattle.block.specs.declared.frame.Ending.{Ending}
-use Rattle.block.proofs.FrameLaws.{inside-part, read-done}
+use Rattle.block.proofs.FrameLaws.{read-done}
 use borrow.Author.Needs.{needs}
-use native.Mathlib.Nat.{add-comm}
 use native.Mathlib.Omega.{arith}
 use Rattle.block.proofs.frame.information.Statement.{statement}
 use Rattle.block.proofs.frame.information.Tie as tie
@@ -47,34 +46,16 @@ slice-aggregate-result c = search needs
 returns : tie.Need-returns
 returns c = none _ (readBlock (c .before .before .before .before .before .args .s .now)) _ _ (rw (c .before .enum-told2 .given .1) at (c .before .before .before .read .ensures))
 
-sub-result : tie.Need-sub-result
-sub-result c = omega (arith, found-at c .0)
-
-sub-result-2 : tie.Need-sub-result-2
-sub-result-2 c = omega (arith, found-at c .0)
-
-part-result-start : tie.Need-part-result-start
-part-result-start c = omega (arith, found-at c .0)
-
-part-result-end : tie.Need-part-result-end
-part-result-end c = search needs
+inside-requires : tie.Need-inside-requires
+inside-requires c κs = search needs
 
 returns-2 : tie.Need-returns-2
 returns-2 c =
-    let s = c .before .before .before .before .before .args .s in
-    record { holds = inside-part (s .now) ∙ found-at (c .before) .1; follows = λ g e. ap (λ n. (s .ptr .0, n)) (add-comm 1 (s .ptr .1)) }
+    let (long, found) = found-at (c .before) in
+    let part = c .inside .ensures in
+    record { holds = part .holds ∙ found; follows = λ g e. part .follows long }
 
 pub information-spec : {M : Type 1} → statement M
 information-spec =
     tie.close
-    (tie.spec
-    read-requires
-    enum-told
-    enum-told-2
-    slice-aggregate-result
-    returns
-    sub-result
-    sub-result-2
-    part-result-start
-    part-result-end
-    returns-2)
+    (tie.spec read-requires enum-told enum-told-2 slice-aggregate-result returns inside-requires returns-2)

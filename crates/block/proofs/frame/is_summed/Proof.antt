@@ -1,6 +1,5 @@
--- `is_summed` meets its contract: the check characters are compared one after the other.
-use mathlib.Core.Path.{sym, _∙_}
-use borrow.Author.Tests.{eq-eqb, ne-eqb}
+-- `is_summed` meets its contract: the check characters are compared one by one.
+use mathlib.Core.Path.{sym}
 use lib.Seq.{length-take-le}
 use native.Mathlib.Omega.{arith}
 use Rattle.block.proofs.FrameLaws.{summing-three}
@@ -17,36 +16,6 @@ slice-aggregate-check-characters c = sym (length-take-le _ (c .before .before .a
 check-characters-requires : tie.Need-check-characters-requires
 check-characters-requires c κs = search needs
 
-sub-if1 : tie.Need-sub-if1
-sub-if1 c = search needs
-
-shared-slice-read-if1 : tie.Need-shared-slice-read-if1
-shared-slice-read-if1 c = search needs
-
-array-read-if1 : tie.Need-array-read-if1
-array-read-if1 c = search needs
-
-returns : tie.Need-returns
-returns c =
-    let d = c .before .before in
-    let a = d .before .before .before in
-    sym (summing-three _ _ (a .pre) (d .check-characters .ensures) ∙ rw (ne-eqb _ _ (c .if1 .taken)))
-
-sub-if2 : tie.Need-sub-if2
-sub-if2 c = search needs
-
-shared-slice-read-if2 : tie.Need-shared-slice-read-if2
-shared-slice-read-if2 c = search needs
-
-array-read-if2 : tie.Need-array-read-if2
-array-read-if2 c = search needs
-
-returns-2 : tie.Need-returns-2
-returns-2 c =
-    let d = c .before .before .before .before in
-    let a = d .before .before .before in
-    sym (summing-three _ _ (a .pre) (d .check-characters .ensures) ∙ rw (eq-eqb _ _ (c .before .before .if1 .left), ne-eqb _ _ (c .if2 .taken)))
-
 sub-result : tie.Need-sub-result
 sub-result c = search needs
 
@@ -56,11 +25,29 @@ shared-slice-read-result c = search needs
 array-read-result : tie.Need-array-read-result
 array-read-result c = search needs
 
-returns-3 : tie.Need-returns-3
-returns-3 c =
-    let d = c .before .before .before .before .before in
+sub-result-2 : tie.Need-sub-result-2
+sub-result-2 c = search needs
+
+shared-slice-read-result-2 : tie.Need-shared-slice-read-result-2
+shared-slice-read-result-2 c = search needs
+
+array-read-result-2 : tie.Need-array-read-result-2
+array-read-result-2 c = search needs
+
+sub-result-3 : tie.Need-sub-result-3
+sub-result-3 c = search needs
+
+shared-slice-read-result-3 : tie.Need-shared-slice-read-result-3
+shared-slice-read-result-3 c = search needs
+
+array-read-result-3 : tie.Need-array-read-result-3
+array-read-result-3 c = search needs
+
+returns : tie.Need-returns
+returns c =
+    let d = c .before .before .before in
     let a = d .before .before .before in
-    sym (summing-three _ _ (a .pre) (d .check-characters .ensures) ∙ rw (eq-eqb _ _ (c .before .before .before .if1 .left), eq-eqb _ _ (c .before .if2 .left)))
+    sym (summing-three _ _ (a .pre) (d .check-characters .ensures))
 
 pub is-summed-spec : {M : Type 1} → statement M
 is-summed-spec =
@@ -69,15 +56,13 @@ is-summed-spec =
     sub-check-characters
     slice-aggregate-check-characters
     check-characters-requires
-    sub-if1
-    shared-slice-read-if1
-    array-read-if1
-    returns
-    sub-if2
-    shared-slice-read-if2
-    array-read-if2
-    returns-2
     sub-result
     shared-slice-read-result
     array-read-result
-    returns-3)
+    sub-result-2
+    shared-slice-read-result-2
+    array-read-result-2
+    sub-result-3
+    shared-slice-read-result-3
+    array-read-result-3
+    returns)

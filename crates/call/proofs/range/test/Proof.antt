@@ -2,10 +2,10 @@
 use mathlib.Core.Path.{_≡_, sym, ap, _∙_}
 use mathlib.Core.Bool.{true}
 use borrow.Author.Tests.{not-true, not-false}
-use Rattle.line.specs.Answer.{writtenAs}
+use Rattle.line.specs.Answer.{checkedAs}
 use Rattle.line.specs.Test.{all}
-use Rattle.call.specs.Call.{fault}
-use Rattle.call.specs.Inner.{endsInRange}
+use Rattle.journal.specs.Storage.{isBuffer}
+use Rattle.call.specs.Call.{endsInRange, fault}
 use Rattle.call.proofs.TestedLaws.{ends-refused, faults-refused, size-refused, job-refused, journal-refused, journal-read}
 use borrow.Author.Needs.{needs}
 use Rattle.call.proofs.range.test.Statement.{statement}
@@ -19,20 +19,27 @@ ranged c = sym (c .before .ends-in-range .ensures) ∙ not-false _ (c .if1 .left
 right : (c : tie.Else2) → all fault (c .before .before .before .before .before .before .before .before .args .faults .now) ≡ true
 right c = sym (c .before .are-faults .ensures) ∙ not-false _ (c .if2 .left)
 
+-- the buffer has its size
+sized : (c : tie.Else3) → isBuffer (c .before .before .before .before .before .before .before .before .before .before .args .journal .now) ≡ true
+sized c = sym (c .before .is-buffer .ensures) ∙ not-false _ (c .if3 .left)
+
 ends-in-range-requires : tie.Need-ends-in-range-requires
 ends-in-range-requires c κs = search needs
 
 returns : tie.Need-returns
-returns c = ends-refused _ _ _ _ _ _ _ (sym (c .before .ends-in-range .ensures) ∙ not-true _ (c .if1 .taken))
+returns c = ends-refused _ _ _ _ (sym (c .before .ends-in-range .ensures) ∙ not-true _ (c .if1 .taken))
 
 are-faults-requires : tie.Need-are-faults-requires
 are-faults-requires c κs = search needs
 
 returns-2 : tie.Need-returns-2
-returns-2 c = faults-refused _ _ _ _ _ _ _ (ranged (c .before .before)) (sym (c .before .are-faults .ensures) ∙ not-true _ (c .if2 .taken))
+returns-2 c = faults-refused _ _ _ _ (ranged (c .before .before)) (sym (c .before .are-faults .ensures) ∙ not-true _ (c .if2 .taken))
+
+is-buffer-requires : tie.Need-is-buffer-requires
+is-buffer-requires c κs = search needs
 
 returns-3 : tie.Need-returns-3
-returns-3 c = size-refused _ _ _ _ _ _ _ (ranged (c .before .before .before)) (right (c .before)) (c .if3 .taken)
+returns-3 c = size-refused _ _ _ _ (ranged (c .before .before .before .before)) (right (c .before .before)) (sym (c .before .is-buffer .ensures) ∙ not-true _ (c .if3 .taken))
 
 check-requires : tie.Need-check-requires
 check-requires c κs = search needs
@@ -46,9 +53,9 @@ enum-told-2 c = search needs
 returns-4 : tie.Need-returns-4
 returns-4 c =
     let d = c .before .before in
-    let told = ap writtenAs (c .enum-told2 .given .1) in
+    let told = ap checkedAs (c .enum-told2 .given .1) in
     let s = d .before in
-    told ∙ job-refused _ _ _ _ _ _ _ (ranged (s .before .before .before)) (right (s .before)) (s .if3 .left) _ (sym (d .check .ensures) ∙ told)
+    told ∙ job-refused _ _ _ _ (ranged (s .before .before .before .before)) (right (s .before .before)) (sized s) _ (sym (d .check .ensures) ∙ told)
 
 check-in-requires : tie.Need-check-in-requires
 check-in-requires c κs = search needs
@@ -62,20 +69,20 @@ enum-told-4 c = search needs
 returns-5 : tie.Need-returns-5
 returns-5 c =
     let d = c .before .before in
-    let told = ap writtenAs (c .enum-told4 .given .1) in
+    let told = ap checkedAs (c .enum-told4 .given .1) in
     let k = d .before .before .before in
     let s = k .before in
-    let counts = sym (k .check .ensures) ∙ ap writtenAs (d .before .enum-told .given .1) in
-    told ∙ journal-refused _ _ _ _ _ _ _ (ranged (s .before .before .before)) (right (s .before)) (s .if3 .left) _ counts _ (sym (d .check-in .ensures) ∙ told)
+    let counts = sym (k .check .ensures) ∙ ap checkedAs (d .before .enum-told .given .1) in
+    told ∙ journal-refused _ _ _ _ (ranged (s .before .before .before .before)) (right (s .before .before)) (sized s) _ counts _ (sym (d .check-in .ensures) ∙ told)
 
 returns-6 : tie.Need-returns-6
 returns-6 c =
     let d = c .before .before in
-    let told = ap writtenAs (c .enum-told3 .given .1) in
+    let told = ap checkedAs (c .enum-told3 .given .1) in
     let k = d .before .before .before in
     let s = k .before in
-    let first = ap writtenAs (d .before .enum-told .given .1) in
-    first ∙ journal-read _ _ _ _ _ _ _ (ranged (s .before .before .before)) (right (s .before)) (s .if3 .left) _ (sym (k .check .ensures) ∙ first) _ (sym (d .check-in .ensures) ∙ told)
+    let first = ap checkedAs (d .before .enum-told .given .1) in
+    first ∙ journal-read _ _ _ _ (ranged (s .before .before .before .before)) (right (s .before .before)) (sized s) _ (sym (k .check .ensures) ∙ first) _ (sym (d .check-in .ensures) ∙ told)
 
 pub test-spec : {M : Type 1} → statement M
 test-spec =
@@ -85,6 +92,7 @@ test-spec =
     returns
     are-faults-requires
     returns-2
+    is-buffer-requires
     returns-3
     check-requires
     enum-told

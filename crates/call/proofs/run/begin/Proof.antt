@@ -28,7 +28,7 @@ same-length c = search needs
 returns : tie.Need-returns
 returns c =
     let d = c .before .before .before in
-    let steps = started-steps _ _ _ _ _ (c .before .before .before .before .before .before .before .before .before .before .before .before .before .before .pre .sound) (d .start .ensures) (omega (arith, slice-aggregate-start (d .before))) in
+    let steps = started-steps (c .before .before .before .before .before .before .before .before .before .before .before .before .before .before .pre .sound) (d .start .ensures) (omega (arith, slice-aggregate-start (d .before))) in
     not-refused _ (c .enum-told .given .1) (steps .answers)
 
 start-requires-2 : tie.Need-start-requires-2
@@ -41,8 +41,8 @@ play-requires : tie.Need-play-requires
 play-requires c κs =
     let d = c .before .before .before .before .before .before .before .before .before in
     let p = c .before .before .before .before .before .before .before .before .before .before .before .before .before .before .before .before .before .before .before .before .pre in
-    let steps = started-steps _ _ _ _ _ (p .sound) (d .start .ensures) (omega (arith, slice-aggregate-start (d .before))) in
-    (sym (slice-aggregate-play (c .before)), begins _ _ _ _ _ _ _ p _ steps (c .before .before .before .before .before .before .outcome .given .1) (c .before .before .before .start2 .ensures) (c .before .before .before .before .before .before .before .before .before .before .before .before .before .clear .ensures))
+    let steps = started-steps (p .sound) (d .start .ensures) (omega (arith, slice-aggregate-start (d .before))) in
+    begins p _ steps (c .before .before .before .before .before .before .outcome .given .1) (c .before .before .before .start2 .ensures) (c .before .before .before .before .before .before .before .before .before .before .before .before .before .clear .ensures) (sym (slice-aggregate-play (c .before)))
 
 same-length-2 : tie.Need-same-length-2
 same-length-2 c = search needs

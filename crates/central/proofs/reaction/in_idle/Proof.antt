@@ -17,14 +17,14 @@ enter-requires c κs = search needs
 
 returns : tie.Need-returns
 unfolding reacts recognized
-returns c = λ rules ts e. rw (sym (c .before .before .is-same .ensures) ∙ c .before .if1 .taken) (c .enter .ensures ts e)
+returns c = λ rules array ts h. rw (sym (c .before .before .is-same .ensures) ∙ c .before .if1 .taken) (c .enter .ensures array ts h)
 
 stay-requires : tie.Need-stay-requires
 stay-requires c κs = search needs
 
 returns-2 : tie.Need-returns-2
 unfolding reacts recognized
-returns-2 c = λ rules ts e. rw (sym (c .before .before .is-same .ensures) ∙ c .before .if1 .left) (c .stay .ensures ts e)
+returns-2 c = λ rules array ts h. rw (sym (c .before .before .is-same .ensures) ∙ c .before .if1 .left) (c .stay .ensures array ts h)
 
 pub in-idle-spec : {M : Type 1} → statement M
 in-idle-spec =

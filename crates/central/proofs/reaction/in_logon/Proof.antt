@@ -9,7 +9,7 @@ use Rattle.line.specs.Character.{CR}
 use Rattle.line.specs.Password.{passwordText}
 use Rattle.line.specs.Test.{same}
 use Rattle.line.specs.Text.{bytesOf}
-use Rattle.central.specs.Hearing.{between, logsOn, recognized}
+use Rattle.central.specs.Hearing.{middle, logsOn, recognized}
 use Rattle.central.specs.Reaction.{reacts}
 use Rattle.central.proofs.TextLaws.{logon-long}
 use borrow.Author.Needs.{needs}
@@ -32,7 +32,7 @@ long c = logon-long (c .before .before .before .before .before .before .args .te
 -- its letters and digits were compared
 compared : (c : tie.After-has-password) →
     let a = c .before .before .before .before .before .before .before .before .before .args in
-    c .has-password .result ≡ same (between (a .text .now)) (bytesOf "PG1" ++ passwordText (a .settings .password))
+    c .has-password .result ≡ same (middle (a .text .now)) (bytesOf "PG1" ++ passwordText (a .settings .password))
 compared c =
     let d = c .before .before .before in
     let t = d .before .before .before .before .before .before .args .text .now in
@@ -50,7 +50,7 @@ stay-requires c κs = search needs
 
 returns : tie.Need-returns
 unfolding reacts recognized
-returns c = λ pagers ts e. rw (sym (c .before .before .is-same .ensures) ∙ c .before .if1 .taken) (c .stay .ensures ts e)
+returns c = λ pagers array ts h. rw (sym (c .before .before .is-same .ensures) ∙ c .before .if1 .taken) (c .stay .ensures array ts h)
 
 logs-on-requires : tie.Need-logs-on-requires
 logs-on-requires c κs = search needs
@@ -61,9 +61,9 @@ fail-requires c κs = search needs
 returns-2 : tie.Need-returns-2
 unfolding reacts recognized
 returns-2 c =
-    λ pagers ts e.
+    λ pagers array ts h.
     let d = c .before .before in
-    rw (other (d .before), sym (d .logs-on .ensures) ∙ not-true _ (c .before .if2 .taken)) (c .fail .ensures pagers ts e)
+    rw (other (d .before), sym (d .logs-on .ensures) ∙ not-true _ (c .before .if2 .taken)) (c .fail .ensures pagers array ts h)
 
 sub-has-password : tie.Need-sub-has-password
 sub-has-password c = omega (arith, long (c .before))
@@ -78,7 +78,7 @@ part-has-password-end : tie.Need-part-has-password-end
 part-has-password-end c = search needs
 
 has-password-requires : tie.Need-has-password-requires
-has-password-requires c κs = c .before .before .before .before .before .before .before .before .pre .password
+has-password-requires c κs = c .before .before .before .before .before .before .before .before .pre .0
 
 fail-requires-2 : tie.Need-fail-requires-2
 fail-requires-2 c κs = search needs
@@ -86,10 +86,10 @@ fail-requires-2 c κs = search needs
 returns-3 : tie.Need-returns-3
 unfolding reacts recognized
 returns-3 c =
-    λ pagers ts e.
-    let h = c .before .before in
-    let d = h .before .before .before in
-    rw (other (d .before .before), logon d, sym (compared h) ∙ not-true _ (c .before .if3 .taken)) (c .fail2 .ensures pagers ts e)
+    λ pagers array ts h.
+    let p = c .before .before in
+    let d = p .before .before .before in
+    rw (other (d .before .before), logon d, sym (compared p) ∙ not-true _ (c .before .if3 .taken)) (c .fail2 .ensures pagers array ts h)
 
 enter-requires : tie.Need-enter-requires
 enter-requires c κs = search needs
@@ -97,10 +97,10 @@ enter-requires c κs = search needs
 returns-4 : tie.Need-returns-4
 unfolding reacts recognized
 returns-4 c =
-    λ pagers ts e.
-    let h = c .before .before in
-    let d = h .before .before .before in
-    rw (other (d .before .before), logon d, sym (compared h) ∙ not-false _ (c .before .if3 .left)) (c .enter .ensures ts e)
+    λ pagers array ts h.
+    let p = c .before .before in
+    let d = p .before .before .before in
+    rw (other (d .before .before), logon d, sym (compared p) ∙ not-false _ (c .before .if3 .left)) (c .enter .ensures array ts h)
 
 pub in-logon-spec : {M : Type 1} → statement M
 in-logon-spec =

@@ -1,11 +1,13 @@
 -- `closes` meets its contract: by what the reply says, and by nothing where it is not recognized.
 use mathlib.Core.List.{[], _∷_}
-use mathlib.Core.Path.{sym, _∙_}
+use mathlib.Core.Path.{_≡_, refl, sym, _∙_}
 use Prim.Native.Nat.{_+_}
 use native.Mathlib.Omega.{arith}
 use borrow.Author.Tests.{ltb-true}
-use Rattle.reply.specs.declared.Meaning.the-variants.{IdRequest, Acceptance, Ack, Nak, Rs, Eot}
-use Rattle.device.proofs.MeaningLaws.{says-other}
+use Rattle.reply.specs.declared.Meaning.the-variants.{IdRequest, Acceptance, Ack, Rs, Eot}
+use Rattle.reply.specs.declared.Reply.the-variants.{Recognized}
+use Rattle.device.specs.Reaction.{closes, reports}
+use Rattle.device.proofs.MeaningLaws.{told}
 use borrow.Author.Needs.{needs}
 use Rattle.device.proofs.reaction.closes.Statement.{statement}
 use Rattle.device.proofs.reaction.closes.Tie as tie
@@ -31,7 +33,7 @@ may-repeat-requires c κs = search needs
 again-requires : tie.Need-again-requires
 again-requires c κs =
     let a = c .before .before .before .before .before .before .before .args in
-    omega (arith, ltb-true (a .place .attempts) (a .retries + 1) (sym (c .before .may-repeat .ensures) ∙ c .if1 .taken))
+    omega (arith, ltb-true (a .place .attempts) (a .settings .retries + 1) (sym (c .before .may-repeat .ensures) ∙ c .if1 .taken))
 
 goes-requires : tie.Need-goes-requires
 goes-requires c κs = search needs
@@ -60,7 +62,9 @@ returns-4 : tie.Need-returns-4
 returns-4 c =
     let d = c .before .before .before in
     let others = IdRequest ∷ Acceptance ∷ Ack ∷ Rs ∷ Eot ∷ [] in
-    rw (d .reply .given .1, says-other _ Nak others (c .before .match2 .keys2) tt) (c .reports3 .ensures)
+    let a = d .before .before .args in
+    let same = told (λ m. closes (a .settings) (a .place) (Recognized m) ≡ reports (Recognized m)) others (d .reply .given .0 .0) (c .before .match2 .keys2) (refl, (refl, (refl, (refl, (refl, tt))))) in
+    rw (d .reply .given .1, same) (c .reports3 .ensures)
 
 pub closes-spec : {M : Type 1} → statement M
 closes-spec =

@@ -1,15 +1,27 @@
 -- `logs_on` meets its contract: by what the reply says, and by nothing where it is not recognized.
-use mathlib.Core.List.{[], _∷_}
-use mathlib.Core.Path.{sym, ap, _∙_}
-use Prim.Native.Nat.{_+_}
+use mathlib.Core.List.{List, [], _∷_}
+use mathlib.Core.Path.{_≡_, refl, sym, ap, _∙_}
+use Prim.Native.Nat.{ℕ, _+_}
 use native.Mathlib.Omega.{arith}
 use borrow.Author.Tests.{ltb-true}
-use Rattle.reply.specs.declared.Meaning.the-variants.{IdRequest, Acceptance, Ack, Nak, Rs, Eot}
-use Rattle.device.specs.Reaction.{goes}
-use Rattle.device.proofs.MeaningLaws.{says-other, says-either}
+use Rattle.reply.specs.declared.Meaning.the-variants.{IdRequest, Ack, Nak, Rs, Eot}
+use Rattle.reply.specs.declared.Reply.the-variants.{Recognized}
+use Rattle.device.specs.Reaction.{goes, logsOn, logsOnAgain}
+use Rattle.device.specs.declared.state.Step.the-variants.{Stopped}
+use Rattle.device.proofs.MeaningLaws.{told}
 use borrow.Author.Needs.{needs}
 use Rattle.device.proofs.reaction.logs_on.Statement.{statement}
 use Rattle.device.proofs.reaction.logs_on.Tie as tie
+
+-- NAK or an ID request asks for the logon again
+asked : (c : tie.At-match2-keys2) (job : List (List ℕ)) →
+    let a = c .before .before .before .before .args in
+    logsOn (a .settings) job (a .place) (a .reply) ≡ logsOnAgain (a .settings) (a .place)
+asked c job =
+    let r = c .before .before in
+    let a = r .before .before .args in
+    let same = told (λ m. logsOn (a .settings) job (a .place) (Recognized m) ≡ logsOnAgain (a .settings) (a .place)) (Nak ∷ IdRequest ∷ []) (r .reply .given .0 .0) (c .match2 .keys2) (refl, (refl, tt)) in
+    rw (r .reply .given .1) same
 
 enum-known-reply : tie.Need-enum-known-reply
 enum-known-reply c = search needs
@@ -38,7 +50,7 @@ may-repeat-requires c κs = search needs
 again-requires : tie.Need-again-requires
 again-requires c κs =
     let a = c .before .before .before .before .before .before .args in
-    omega (arith, ltb-true (a .place .attempts) (a .retries + 1) (sym (c .before .may-repeat .ensures) ∙ c .if1 .taken))
+    omega (arith, ltb-true (a .place .attempts) (a .settings .retries + 1) (sym (c .before .may-repeat .ensures) ∙ c .if1 .taken))
 
 goes-requires-3 : tie.Need-goes-requires-3
 goes-requires-3 c κs = search needs
@@ -57,24 +69,22 @@ returns-2 c = λ job e.
 returns-3 : tie.Need-returns-3
 returns-3 c = λ job e.
     let d = c .before .before in
-    let k = d .before .before .match2 .keys2 in
     let repeats = sym (d .before .may-repeat .ensures) ∙ d .if1 .taken in
-    rw (d .before .before .before .before .reply .given .1, says-other _ Acceptance (Nak ∷ IdRequest ∷ []) k tt, says-either _ Nak IdRequest k, repeats, ← c .before .again .ensures)
-    (c .goes3 .ensures)
+    rw (asked (d .before .before) job, repeats, ← c .before .again .ensures) (c .goes3 .ensures)
 
 returns-4 : tie.Need-returns-4
 returns-4 c = λ job e.
     let d = c .before in
-    let k = d .before .before .match2 .keys2 in
     let spent = sym (d .before .may-repeat .ensures) ∙ d .if1 .left in
-    rw (d .before .before .before .before .reply .given .1, says-other _ Acceptance (Nak ∷ IdRequest ∷ []) k tt, says-either _ Nak IdRequest k, spent) (c .goes4 .ensures)
+    rw (asked (d .before .before) job, spent) (c .goes4 .ensures)
 
 returns-5 : tie.Need-returns-5
 returns-5 c = λ job e.
     let k = c .before .match2 .keys3 in
     let d = c .before .before .before in
-    let others = Ack ∷ Rs ∷ Eot ∷ [] in
-    rw (d .reply .given .1, says-other _ Acceptance others k tt, says-other _ Nak others k tt, says-other _ IdRequest others k tt) (c .goes5 .ensures)
+    let a = d .before .before .args in
+    let same = told (λ m. logsOn (a .settings) job (a .place) (Recognized m) ≡ goes Stopped) (Ack ∷ Rs ∷ Eot ∷ []) (d .reply .given .0 .0) k (refl, (refl, (refl, tt))) in
+    rw (d .reply .given .1, same) (c .goes5 .ensures)
 
 pub logs-on-spec : {M : Type 1} → statement M
 logs-on-spec =

@@ -1,9 +1,7 @@
 -- `moves` meets its contract: each step reacts by its own function, and a place that exists has a transaction and a block.
 use mathlib.Core.Path.{sym}
-use Rattle.line.specs.Answer.{output}
-use Rattle.journal.specs.Walk.{decode}
 use Rattle.device.specs.Reaction.{moves}
-use Rattle.device.proofs.PlaceLaws.{somewhere-parts}
+use Rattle.device.proofs.WaitLaws.{waits-parts}
 use borrow.Author.Needs.{needs}
 use Rattle.device.proofs.reaction.moves.Statement.{statement}
 use Rattle.device.proofs.reaction.moves.Tie as tie
@@ -23,16 +21,16 @@ logs-on-requires c κs = search needs
 enum-known-step-3 : tie.Need-enum-known-step-3
 enum-known-step-3 c = search needs
 
-blocks-in-requires : tie.Need-blocks-in-requires
-blocks-in-requires c κs = search needs
+blocks-of-requires : tie.Need-blocks-of-requires
+blocks-of-requires c κs = search needs
 
 sends-requires : tie.Need-sends-requires
 sends-requires c κs =
     let s = c .before .before .before .before .before in
-    let count = s .pre .1 in
-    let blocks = c .blocks-in .ensures in
-    let (t, b) = somewhere-parts (output (decode (s .args .job .now))) (c .before .before .step3 .given .0 .0) (rw (c .before .before .step3 .given .1) at (s .pre .2)) in
-    (s .pre .0, rw count t, rw blocks b)
+    let (job, count, waits) = s .pre .1 in
+    let step = c .before .before .step3 .given in
+    let (t, _, b) = waits-parts (s .args .settings) job (step .0 .0) (s .args .info .now) (rw (step .1) at waits) in
+    (s .pre .0, rw count at t, rw (c .blocks-of .ensures (s .args .settings)) b)
 
 enum-known-step-4 : tie.Need-enum-known-step-4
 enum-known-step-4 c = search needs
@@ -48,27 +46,27 @@ goes-requires c κs = search needs
 
 returns : tie.Need-returns
 unfolding moves
-returns c = rw (c .before .before .step .given .1) (c .opens .ensures)
+returns c = λ job count waits. rw (c .before .before .step .given .1) (c .opens .ensures)
 
 returns-2 : tie.Need-returns-2
 unfolding moves
-returns-2 c =
-    let s = c .before .before .before .before .before in
-    rw (c .before .before .step2 .given .1) (c .logs-on .ensures (output (decode (s .args .job .now))) (sym (s .pre .1)))
+returns-2 c = λ job count waits. rw (c .before .before .step2 .given .1) (c .logs-on .ensures job count)
 
 returns-3 : tie.Need-returns-3
 unfolding moves
-returns-3 c =
+returns-3 c = λ job count waits.
     let s = c .before .before .before .before .before .before in
-    rw (c .before .before .before .step3 .given .1) (c .sends .ensures (output (decode (s .args .job .now))) (sym (s .pre .1)) (sym (c .before .blocks-in .ensures)))
+    let step = c .before .before .before .step3 .given .1 in
+    let shows = (rw step at waits) .shows in
+    rw step (c .sends .ensures job count (rw shows (sym (c .before .blocks-of .ensures (s .args .settings)))))
 
 returns-4 : tie.Need-returns-4
 unfolding moves
-returns-4 c = rw (c .before .before .step4 .given .1) (c .closes .ensures)
+returns-4 c = λ job count waits. rw (c .before .before .step4 .given .1) (c .closes .ensures)
 
 returns-5 : tie.Need-returns-5
 unfolding moves
-returns-5 c = rw (c .before .enum-told .given .1) (c .goes .ensures)
+returns-5 c = λ job count waits. rw (c .before .enum-told .given .1) (c .goes .ensures)
 
 pub moves-spec : {M : Type 1} → statement M
 moves-spec =
@@ -79,7 +77,7 @@ moves-spec =
     enum-known-step-2
     logs-on-requires
     enum-known-step-3
-    blocks-in-requires
+    blocks-of-requires
     sends-requires
     enum-known-step-4
     closes-requires

@@ -1,7 +1,10 @@
 -- `opens` meets its contract: by what the reply says, and by nothing where it is not recognized.
 use mathlib.Core.List.{[], _∷_}
-use Rattle.reply.specs.declared.Meaning.the-variants.{IdRequest, Acceptance, Ack, Nak, Rs, Eot}
-use Rattle.device.proofs.MeaningLaws.{says-other}
+use mathlib.Core.Path.{_≡_, refl}
+use Rattle.reply.specs.declared.Meaning.the-variants.{Acceptance, Ack, Nak, Rs, Eot}
+use Rattle.reply.specs.declared.Reply.the-variants.{Recognized}
+use Rattle.device.specs.Reaction.{opens, opensAgain}
+use Rattle.device.proofs.MeaningLaws.{told}
 use borrow.Author.Needs.{needs}
 use Rattle.device.proofs.reaction.opens.Statement.{statement}
 use Rattle.device.proofs.reaction.opens.Tie as tie
@@ -39,7 +42,9 @@ returns-3 : tie.Need-returns-3
 returns-3 c =
     let d = c .before .before .before in
     let others = Acceptance ∷ Ack ∷ Nak ∷ Rs ∷ Eot ∷ [] in
-    rw (d .reply .given .1, says-other _ IdRequest others (c .before .match2 .keys2) tt) (c .opens-again2 .ensures)
+    let p = d .before .before .args .place in
+    let same = told (λ m. opens p (Recognized m) ≡ opensAgain p) others (d .reply .given .0 .0) (c .before .match2 .keys2) (refl, (refl, (refl, (refl, (refl, tt))))) in
+    rw (d .reply .given .1, same) (c .opens-again2 .ensures)
 
 pub opens-spec : {M : Type 1} → statement M
 opens-spec =

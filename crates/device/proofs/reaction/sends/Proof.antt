@@ -1,16 +1,16 @@
--- `sends` meets its contract: by what the reply says, and by nothing where it is not recognized.
-use mathlib.Core.List.{[], _∷_}
-use mathlib.Core.Path.{ap, _∙_}
-use Rattle.reply.specs.declared.Meaning.the-variants.{IdRequest, Acceptance, Ack, Nak, Rs, Eot}
+-- `sends` meets its contract: by the code in the reply, and by nothing where the step reads none.
+use mathlib.Core.Path.{sym, ap, _∙_}
 use Rattle.device.specs.Reaction.{gives}
 use Rattle.device.specs.declared.state.Verdict.the-variants.{Rejected}
-use Rattle.device.proofs.MeaningLaws.{says-other}
 use borrow.Author.Needs.{needs}
 use Rattle.device.proofs.reaction.sends.Statement.{statement}
 use Rattle.device.proofs.reaction.sends.Tie as tie
 
-enum-known-reply : tie.Need-enum-known-reply
-enum-known-reply c = search needs
+block-reply-requires : tie.Need-block-reply-requires
+block-reply-requires c κs = search needs
+
+enum-known-code : tie.Need-enum-known-code
+enum-known-code c = search needs
 
 enum-told : tie.Need-enum-told
 enum-told c = search needs
@@ -19,7 +19,7 @@ gives-requires : tie.Need-gives-requires
 gives-requires c κs = search needs
 
 returns : tie.Need-returns
-returns c = λ job e b. rw (c .before .enum-told .given .1) (c .gives .ensures)
+returns c = λ job e b. rw (sym (c .before .before .before .block-reply .ensures) ∙ c .before .enum-told .given .1) (c .gives .ensures)
 
 enum-told-2 : tie.Need-enum-told-2
 enum-told-2 c = search needs
@@ -51,40 +51,32 @@ enum-told-5 c = search needs
 gives-requires-3 : tie.Need-gives-requires-3
 gives-requires-3 c κs = search needs
 
-gives-requires-4 : tie.Need-gives-requires-4
-gives-requires-4 c κs = search needs
-
 returns-2 : tie.Need-returns-2
 returns-2 c = λ job e b.
     let d = c .before in
-    rw (d .before .before .before .reply .given .1, d .enum-told2 .given .1) (c .sends-next .ensures job e b)
+    rw (sym (d .before .before .before .before .before .block-reply .ensures) ∙ d .before .before .before .code .given .1, d .enum-told2 .given .1) (c .sends-next .ensures _ job e b)
 
 returns-3 : tie.Need-returns-3
 returns-3 c = λ job e b.
     let d = c .before in
-    rw (d .before .before .before .reply .given .1, d .enum-told3 .given .1) (c .sends-again .ensures)
+    rw (sym (d .before .before .before .before .before .block-reply .ensures) ∙ d .before .before .before .code .given .1, d .enum-told3 .given .1) (c .sends-again .ensures)
 
 returns-4 : tie.Need-returns-4
 returns-4 c = λ job e b.
     let d = c .before .before in
-    rw (d .before .before .before .reply .given .1, d .enum-told4 .given .1) (c .gives2 .ensures ∙ ap (gives _ Rejected) (c .before .onwards .ensures job e))
+    rw (sym (d .before .before .before .before .before .block-reply .ensures) ∙ d .before .before .before .code .given .1, d .enum-told4 .given .1) (c .gives2 .ensures ∙ ap (gives _ Rejected) (c .before .onwards .ensures job e))
 
 returns-5 : tie.Need-returns-5
 returns-5 c = λ job e b.
     let d = c .before in
-    rw (d .before .before .before .reply .given .1, d .enum-told5 .given .1) (c .gives3 .ensures)
-
-returns-6 : tie.Need-returns-6
-returns-6 c = λ job e b.
-    let k = c .before .match2 .keys5 in
-    let others = IdRequest ∷ Acceptance ∷ [] in
-    rw (c .before .before .before .reply .given .1, says-other _ Ack others k tt, says-other _ Nak others k tt, says-other _ Rs others k tt, says-other _ Eot others k tt) (c .gives4 .ensures)
+    rw (sym (d .before .before .before .before .before .block-reply .ensures) ∙ d .before .before .before .code .given .1, d .enum-told5 .given .1) (c .gives3 .ensures)
 
 pub sends-spec : {M : Type 1} → statement M
 sends-spec =
     tie.close
     (tie.spec
-    enum-known-reply
+    block-reply-requires
+    enum-known-code
     enum-told
     gives-requires
     returns
@@ -98,9 +90,7 @@ sends-spec =
     gives-requires-2
     enum-told-5
     gives-requires-3
-    gives-requires-4
     returns-2
     returns-3
     returns-4
-    returns-5
-    returns-6)
+    returns-5)

@@ -13,7 +13,7 @@ may-repeat-requires c κs = search needs
 again-requires : tie.Need-again-requires
 again-requires c κs =
     let a = c .before .before .args in
-    omega (arith, ltb-true (a .place .attempts) (a .retries + 1) (sym (c .before .may-repeat .ensures) ∙ c .if1 .taken))
+    omega (arith, ltb-true (a .place .attempts) (a .settings .retries + 1) (sym (c .before .may-repeat .ensures) ∙ c .if1 .taken))
 
 goes-requires : tie.Need-goes-requires
 goes-requires c κs = search needs

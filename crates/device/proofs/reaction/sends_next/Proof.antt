@@ -22,9 +22,9 @@ gives-requires : tie.Need-gives-requires
 gives-requires c κs = search needs
 
 returns : tie.Need-returns
-returns c = λ job e b.
+returns c = λ settings job e b.
     let p = c .before .before .before .before .args .place in
-    let last = eq-eqb (p .block + 1) (blocksIn job (p .transaction)) (omega arith) in
+    let last = eq-eqb (p .block + 1) (blocksIn settings job (p .transaction)) (omega arith) in
     rw last (c .gives .ensures ∙ ap (gives _ Accepted) (c .before .onwards .ensures job e))
 
 add-t10 : tie.Need-add-t10
@@ -34,9 +34,9 @@ goes-requires : tie.Need-goes-requires
 goes-requires c κs = search needs
 
 returns-2 : tie.Need-returns-2
-returns-2 c = λ job e b.
+returns-2 c = λ settings job e b.
     let p = c .before .before .before .before .args .place in
-    let other = ne-eqb (p .block + 1) (blocksIn job (p .transaction)) (omega arith) in
+    let other = ne-eqb (p .block + 1) (blocksIn settings job (p .transaction)) (omega arith) in
     rw other (c .goes .ensures)
 
 pub sends-next-spec : {M : Type 1} → statement M

@@ -15,7 +15,7 @@ same-length : tie.Need-same-length
 same-length c = search needs
 
 returns : tie.Need-returns
-returns c = steps-done _ _ _ _ _ refl (c .before .before .before .put-string .ensures) (c .answer .ensures)
+returns c = λ job waits. steps-done _ _ _ _ _ refl (c .before .before .before .put-string .ensures job waits) (c .answer .ensures)
 
 pub send-spec : {M : Type 1} → statement M
 send-spec = tie.close (tie.spec put-string-requires answer-requires same-length returns)

@@ -1,37 +1,55 @@
 -- `start` meets its contract: what the tests refuse leaves the memory; else the first string is put out.
-use mathlib.Core.Path.{_≡_, sym, ap, _∙_}
+use mathlib.Core.List.{List}
+use mathlib.Core.Path.{_≡_, refl, ap, _∙_}
+use Prim.Native.Nat.{ℕ}
 use lib.ListN.{length}
-use Rattle.line.specs.Answer.{done, refused, refusalNumber, mapDone, output, writtenAs}
-use Rattle.journal.specs.Walk.{decode}
-use Rattle.device.specs.Inner.{tested}
+use Rattle.line.specs.Answer.{done}
+use Rattle.journal.specs.Survey.{surveyOf}
+use Rattle.journal.proofs.EncodingLaws.{decode-legal}
+use Rattle.device.specs.Inner.{Waits}
 use Rattle.device.specs.Reaction.{goes}
-use Rattle.device.specs.Step.{answered}
+use Rattle.device.specs.Step.{answered, tested}
 use Rattle.device.specs.declared.state.Step.the-variants.{Opening, Stopped}
-use Rattle.device.proofs.StepLaws.{Passes, counted-passes, started-refused, started-done, steps-refused, steps-sent}
+use Rattle.device.proofs.StepLaws.{Passes, surveyed-passes, surveyed-refused, started-refused, started-done, steps-refused, steps-sent}
+use Rattle.device.proofs.WaitLaws.{here-lies}
 use borrow.Author.Needs.{needs}
 use Rattle.device.proofs.step.start.Statement.{statement}
 use Rattle.device.proofs.step.start.Tie as tie
 
 -- the tests are passed
-passing : (c : tie.After-enum-told) →
+passing : (c : tie.After-found) →
     let a = c .before .before .before .before .before .args in
-    let ts = output (decode (a .job .now)) in
-    Passes (a .settings) Stopped (a .job .now) (length (a .out .now)) ts × (tested (a .settings) Stopped (a .job .now) (length (a .out .now)) ≡ done ts)
+    (ts : List (List ℕ)) × (tested (a .settings) Stopped (a .job .now) (length (a .out .now)) ≡ done ts) ×
+    Passes (a .settings) Stopped (a .job .now) (length (a .out .now)) ts × (surveyOf 0 ts ≡ c .found .given .0 .0)
 passing c =
-    let (passes, _, whole) = counted-passes _ _ _ _ _ (sym (c .before .before .test .ensures) ∙ ap writtenAs (c .enum-told .given .1)) in
-    (passes, whole)
-
--- or refuse
-refusing : (c : tie.After-enum-told2) →
     let a = c .before .before .before .before .before .args in
-    mapDone length (tested (a .settings) Stopped (a .job .now) (length (a .out .now))) ≡ refused (refusalNumber (c .enum-told2 .given .0 .0))
-refusing c = sym (c .before .before .test .ensures) ∙ ap writtenAs (c .enum-told2 .given .1)
+    surveyed-passes (a .settings) Stopped (a .job .now) _ (c .before .before .test .ensures) (c .found .given .1)
+
+-- the move is to the opening
+opening : (c : tie.After-goes) → c .goes .result .step ≡ Opening (c .before .first .result)
+opening c = ap (λ m. m .next) (c .goes .ensures)
+
+-- which sends no block
+waits : (c : tie.After-goes) →
+    let k = c .before .before .before .before .before in
+    Waits (k .before .before .before .before .before .args .settings) (passing k .0) (c .goes .result .step) (c .before .before .part .result .now)
+waits c =
+    let k = c .before .before .before .before .before in
+    let (ts, _, passes, _) = passing k in
+    let good = decode-legal (k .before .before .before .before .before .args .job .now) ts (passes .read) in
+    rw (opening c, c .before .first .ensures) (record { good = good; there = refl; shows = tt })
 
 test-requires : tie.Need-test-requires
 test-requires c κs = search needs
 
-enum-told : tie.Need-enum-told
-enum-told c = search needs
+enum-known-found : tie.Need-enum-known-found
+enum-known-found c = search needs
+
+part-requires : tie.Need-part-requires
+part-requires c κs =
+    let k = c .before .before in
+    let (ts, _, passes, same) = passing k in
+    here-lies (k .before .before .before .before .before .args .job .now) ts (passes .read) 0 same .inside
 
 first-requires : tie.Need-first-requires
 first-requires c κs = search needs
@@ -41,12 +59,12 @@ goes-requires c κs = search needs
 
 send-requires : tie.Need-send-requires
 send-requires c κs =
-    let (passes, _) = passing (c .before .before .before) in
-    let opening = ap (λ m. m .next) (c .before .goes .ensures) ∙ ap Opening (c .before .before .first .ensures) in
-    (passes .password, rw opening, passes .fits)
+    let g = c .before in
+    let (ts, _, passes, _) = passing (g .before .before .before .before .before) in
+    (passes .password, (ts, waits g), passes .fits)
 
-enum-told-2 : tie.Need-enum-told-2
-enum-told-2 c = search needs
+enum-known-refusal : tie.Need-enum-known-refusal
+enum-known-refusal c = search needs
 
 goes-requires-2 : tie.Need-goes-requires-2
 goes-requires-2 c κs = search needs
@@ -59,27 +77,31 @@ same-length c = search needs
 
 returns : tie.Need-returns
 returns c =
-    let g = c .before .before .before .before in
-    let a = g .before .before .before .before .before .before .before .args in
+    let s = c .before .before in
+    let g = s .before .before in
+    let k = g .before .before .before .before .before in
+    let a = k .before .before .before .before .before .args in
+    let (ts, whole, _, _) = passing k in
     let moved = g .goes .ensures ∙ ap (λ p. goes (Opening p)) (g .before .first .ensures) in
-    steps-sent (a .settings) _ (started-done (a .settings) (a .job .now) _ _ (passing (g .before .before) .1)) moved (c .before .before .send .ensures)
+    steps-sent (a .settings) ts (started-done (a .settings) (a .job .now) _ ts whole) moved (s .send .ensures ts (waits g))
 
 returns-2 : tie.Need-returns-2
 returns-2 c =
-    let told = ap writtenAs (c .before .before .enum-told2 .given .1) in
-    let a = c .before .before .before .before .before .before .before .args in
-    steps-refused _ Stopped _ _ (started-refused (a .settings) (a .job .now) _ _ (refusing (c .before .before))) told (c .answer .ensures ∙ ap (answered _) (c .before .goes2 .ensures))
+    let r = c .before .before .before in
+    let a = r .before .before .before .before .before .args in
+    steps-refused _ Stopped _ _ (started-refused (a .settings) (a .job .now) _ _ (surveyed-refused (a .settings) Stopped (a .job .now) _ (r .before .before .test .ensures) (r .refusal .given .1))) refl (c .answer .ensures ∙ ap (answered _) (c .before .goes2 .ensures))
 
 pub start-spec : {M : Type 1} → statement M
 start-spec =
     tie.close
     (tie.spec
     test-requires
-    enum-told
+    enum-known-found
+    part-requires
     first-requires
     goes-requires
     send-requires
-    enum-told-2
+    enum-known-refusal
     goes-requires-2
     answer-requires
     same-length

@@ -1,14 +1,18 @@
--- `test` meets its contract: each return is the case of `tested` that the tests before it leave.
+-- `test` meets its contract: each return is the case of `tested` that the tests before it leave; the survey says what it found where all pass.
 use mathlib.Core.Bool.{true}
+use mathlib.Core.List.{List, []}
 use mathlib.Core.Path.{_≡_, sym, ap, _∙_}
+use Prim.Native.Nat.{ℕ}
 use borrow.Author.Tests.{lt-ltb, not-true, not-false}
-use lib.ListN.{length}
-use Rattle.line.specs.Answer.{done, mapDone, writtenAs}
+use lib.ListN.{getD}
+use Rattle.line.specs.Answer.{done}
+use Rattle.line.proofs.OutcomeLaws.{map-done, map-refused}
+use Rattle.journal.specs.Survey.{Lies, surveyOf, surveyedAs}
 use Rattle.journal.specs.Walk.{decode}
-use Rattle.device.specs.Inner.{tested}
-use Rattle.device.specs.Step.{settingsInRange, stepInRange}
-use Rattle.device.proofs.DecodedLaws.{counted-made}
-use Rattle.device.proofs.StepLaws.{settings-parts, tested-unread, tested-nowhere, tested-counts}
+use Rattle.device.specs.Inner.{transactionOf}
+use Rattle.device.specs.Step.{exists, settingsInRange, stepInRange, tested}
+use Rattle.device.proofs.StepLaws.{settings-parts, tested-malformed, tested-nowhere, tested-there}
+use Rattle.device.proofs.WaitLaws.{here-lies, sends-own}
 use borrow.Author.Needs.{needs}
 use Rattle.device.proofs.step.test.Statement.{statement}
 use Rattle.device.proofs.step.test.Tie as tie
@@ -20,12 +24,37 @@ ranged c = sym (c .before .settings-in-range .ensures) ∙ not-false _ (c .if1 .
 -- the attempts are in range
 kept : (c : tie.Else2) →
     let a = c .before .before .before .before .before .args in
-    stepInRange (a .settings .retries) (a .step) ≡ true
+    stepInRange (a .settings) (a .step) ≡ true
 kept c = sym (c .before .step-in-range .ensures) ∙ not-false _ (c .if2 .left)
 
--- so many transactions were counted
-counted : (c : tie.After-known-told) → mapDone length (decode (c .before .before .before .before .before .before .before .before .before .before .args .job .now)) ≡ done (c .before .checked .given .0 .0)
-counted c = sym (c .before .before .before .check .ensures) ∙ ap writtenAs (c .before .checked .given .1)
+-- the job was read, and surveyed at the step's transaction
+surveyed : (c : tie.After-surveyed) →
+    let a = c .before .before .before .before .before .before .before .before .before .before .args in
+    (ts : List (List ℕ)) × (decode (a .job .now) ≡ done ts) × (surveyOf (transactionOf (a .step)) ts ≡ c .surveyed .given .0 .0)
+surveyed c =
+    let w = c .before .before in
+    let found = rw (w .before .transaction-of .ensures) at (sym (w .survey .ensures) ∙ ap surveyedAs (c .surveyed .given .1)) in
+    map-done _ (decode (w .before .before .before .before .before .before .before .before .args .job .now)) _ found
+
+-- the step's transaction lies where it says
+lies : (c : tie.After-surveyed) →
+    let a = c .before .before .before .before .before .before .before .before .before .before .args in
+    Lies (a .job .now) (c .surveyed .given .0 .0 .here) (getD (surveyed c .0) (transactionOf (a .step)) [])
+lies c =
+    let a = c .before .before .before .before .before .before .before .before .before .before .args in
+    let (ts, read, same) = surveyed c in
+    here-lies (a .job .now) ts read (transactionOf (a .step)) same
+
+-- so its place was looked for in the job
+looked : (c : tie.After-place-exists) →
+    let k = c .before .before .before .before in
+    let a = k .before .before .before .before .before .before .before .before .before .before .args in
+    c .place-exists .result ≡ exists (a .settings) (surveyed k .0) (a .step)
+looked c =
+    let k = c .before .before .before .before in
+    let a = k .before .before .before .before .before .before .before .before .before .before .args in
+    let (ts, _, same) = surveyed k in
+    c .place-exists .ensures (a .settings) ts (ap (λ found. found .count) same) (sends-own ts (a .step) _ (sym (lies k .holds) ∙ sym (c .before .part .ensures)))
 
 settings-in-range-requires : tie.Need-settings-in-range-requires
 settings-in-range-requires c κs = search needs
@@ -45,35 +74,47 @@ returns-3 : tie.Need-returns-3
 unfolding tested
 returns-3 c = rw (ranged (c .before .before .before), kept (c .before), lt-ltb _ 256 (c .if3 .taken))
 
-check-requires : tie.Need-check-requires
-check-requires c κs = search needs
+transaction-of-requires : tie.Need-transaction-of-requires
+transaction-of-requires c κs = search needs
 
-enum-known-checked : tie.Need-enum-known-checked
-enum-known-checked c = search needs
+survey-requires : tie.Need-survey-requires
+survey-requires c κs = search needs
+
+enum-known-surveyed : tie.Need-enum-known-surveyed
+enum-known-surveyed c = search needs
 
 enum-told : tie.Need-enum-told
 enum-told c = search needs
 
 returns-4 : tie.Need-returns-4
 returns-4 c =
-    let d = c .before .before in
-    let told = ap writtenAs (c .enum-told .given .1) in
-    told ∙ sym (tested-unread _ _ _ _ (ranged (d .before .before .before .before)) (kept (d .before .before)) (d .before .if3 .left) _ (sym (d .check .ensures) ∙ told))
+    let w = c .before .before in
+    let e = w .before .before in
+    let told = ap surveyedAs (c .enum-told .given .1) in
+    let malformed = map-refused _ (decode _) _ (sym (w .survey .ensures) ∙ told) in
+    rw (tested-malformed _ _ _ _ (ranged (e .before .before .before)) (kept (e .before)) (e .if3 .left) _ malformed) told
+
+part-requires : tie.Need-part-requires
+part-requires c κs = lies (c .before .before) .inside
 
 place-exists-requires : tie.Need-place-exists-requires
-place-exists-requires c κs = counted-made (decode (c .before .before .before .before .before .before .before .before .before .before .args .job .now)) _ (counted c) .1
+place-exists-requires c κs = search needs
 
 returns-5 : tie.Need-returns-5
 returns-5 c =
-    let d = c .before .before .before .before .before .before in
-    let off = sym (c .before .place-exists .ensures) ∙ not-true _ (c .if4 .taken) in
-    rw (tested-nowhere _ _ _ _ (ranged (d .before .before .before)) (kept (d .before)) (d .if3 .left) _ (counted (c .before .before)) off)
+    let k = c .before .before .before .before .before in
+    let e = k .before .before .before .before in
+    let (ts, read, _) = surveyed k in
+    let off = sym (looked (c .before)) ∙ not-true _ (c .if4 .taken) in
+    rw (tested-nowhere _ _ _ _ (ranged (e .before .before .before)) (kept (e .before)) (e .if3 .left) ts read off)
 
 returns-6 : tie.Need-returns-6
 returns-6 c =
-    let d = c .before .before .before .before .before .before in
-    let on = sym (c .before .place-exists .ensures) ∙ not-false _ (c .if4 .left) in
-    sym (tested-counts _ _ _ _ (ranged (d .before .before .before)) (kept (d .before)) (d .if3 .left) _ (counted (c .before .before)) on)
+    let k = c .before .before .before .before .before in
+    let e = k .before .before .before .before in
+    let (ts, read, same) = surveyed k in
+    let on = sym (looked (c .before)) ∙ not-false _ (c .if4 .left) in
+    rw (tested-there _ _ _ _ (ranged (e .before .before .before)) (kept (e .before)) (e .if3 .left) ts read on) (sym (ap done same))
 
 pub test-spec : {M : Type 1} → statement M
 test-spec =
@@ -84,10 +125,12 @@ test-spec =
     step-in-range-requires
     returns-2
     returns-3
-    check-requires
-    enum-known-checked
+    transaction-of-requires
+    survey-requires
+    enum-known-surveyed
     enum-told
     returns-4
+    part-requires
     place-exists-requires
     returns-5
     returns-6)

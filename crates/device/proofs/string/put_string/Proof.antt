@@ -1,11 +1,29 @@
 -- `put_string` meets its contract: each step's string is put out by its own function.
-use mathlib.Core.Path.{refl}
+use mathlib.Core.Bool.{true}
+use mathlib.Core.Path.{_≡_, refl}
+use Prim.Native.Nat.{_<_}
+use lib.ListN.{length}
 use Rattle.line.specs.Test.{all}
+use Rattle.line.specs.Transaction.{legal}
 use Rattle.line.proofs.LaidLaws.{laid-none}
+use Rattle.segmentation.specs.Segmentation.{segmentation}
+use Rattle.device.specs.Reaction.{segmentsOf}
+use Rattle.device.proofs.WaitLaws.{waits-parts}
 use native.Mathlib.Omega.{arith}
 use borrow.Author.Needs.{needs}
 use Rattle.device.proofs.string.put_string.Statement.{statement}
 use Rattle.device.proofs.string.put_string.Tie as tie
+
+-- the transaction that is sent is legal, and has the block
+placed : (c : tie.After-step) →
+    let t = c .before .before .before .before .before .args .info .now in
+    (legal t ≡ true) × (c .step .given .0 .0 .block < length (segmentation t))
+unfolding segmentsOf
+placed c =
+    let s = c .before .before .before .before .before in
+    let (job, waits) = s .pre .1 in
+    let (_, good, block) = waits-parts (s .args .settings) job (c .step .given .0 .0) (s .args .info .now) (rw (c .step .given .1) at waits) in
+    (good, block)
 
 enum-told : tie.Need-enum-told
 enum-told c = search needs
@@ -28,8 +46,8 @@ enum-known-step c = search needs
 
 put-segment-requires : tie.Need-put-segment-requires
 put-segment-requires c κs =
-    let s = c .before .before .before .before .before .before in
-    (rw (c .before .before .step .given .1) at (s .pre .1), omega arith)
+    let (good, block) = placed (c .before .before) in
+    (good, block, omega arith)
 
 enum-told-3 : tie.Need-enum-told-3
 enum-told-3 c = search needs
@@ -48,28 +66,33 @@ same-length : tie.Need-same-length
 same-length c = search needs
 
 returns : tie.Need-returns
-returns c = rw (c .before .before .before .before .before .enum-told .given .1) (c .before .before .put-text .ensures)
+returns c = λ job waits. rw (c .before .before .before .before .before .enum-told .given .1) (c .before .before .put-text .ensures)
 
 same-length-2 : tie.Need-same-length-2
 same-length-2 c = search needs
 
 returns-2 : tie.Need-returns-2
-returns-2 c = rw (c .before .before .before .before .enum-told2 .given .1) (c .before .before .put-logon .ensures)
+returns-2 c = λ job waits. rw (c .before .before .before .before .enum-told2 .given .1) (c .before .before .put-logon .ensures)
 
 same-length-3 : tie.Need-same-length-3
 same-length-3 c = search needs
 
 returns-3 : tie.Need-returns-3
-returns-3 c = rw (c .before .before .before .before .before .step .given .1) (c .before .before .put-segment .ensures)
+unfolding segmentsOf
+returns-3 c = λ job waits.
+    let d = c .before .before in
+    let k = d .before .before .before in
+    let shows = (rw (k .step .given .1) at waits) .shows in
+    rw (k .step .given .1, shows) (d .put-segment .ensures)
 
 same-length-4 : tie.Need-same-length-4
 same-length-4 c = search needs
 
 returns-4 : tie.Need-returns-4
-returns-4 c = rw (c .before .before .before .before .before .enum-told3 .given .1) (c .before .before .put-text2 .ensures)
+returns-4 c = λ job waits. rw (c .before .before .before .before .before .enum-told3 .given .1) (c .before .before .put-text2 .ensures)
 
 returns-5 : tie.Need-returns-5
-returns-5 c = rw (c .enum-told4 .given .1) (laid-none _)
+returns-5 c = λ job waits. rw (c .enum-told4 .given .1) (laid-none _)
 
 pub put-string-spec : {M : Type 1} → statement M
 put-string-spec =

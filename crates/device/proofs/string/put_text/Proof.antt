@@ -1,5 +1,5 @@
 -- `put_text` meets its contract: the text fits and is made of 7-bit values, so it is put out with parity.
-use Rattle.device.proofs.WritingLaws.{parity-laid}
+use Rattle.line.proofs.ParityLaws.{parity-laid}
 use borrow.Author.Needs.{needs}
 use Rattle.device.proofs.string.put_text.Statement.{statement}
 use Rattle.device.proofs.string.put_text.Tie as tie

@@ -1,16 +1,28 @@
--- `oldest` meets its contract: past the count there is none, and before it the record is the one that lies as far from the other end.
-use mathlib.Core.Path.{sym, ap, _∙_}
-use Rattle.line.specs.Answer.{writtenAs}
-use Rattle.journal.proofs.ReadLaws.{refused-output, oldest-past, oldest-newest}
+-- `oldest` meets its contract: where the survey finds the record its part is handed back, and of a journal that is refused nothing.
+use mathlib.Core.Path.{_≡_, sym, ap, _∙_}
+use native.Mathlib.Nat.{add-comm}
+use native.Mathlib.Omega.{arith}
+use Prim.Native.Nat.{_+_, _-_}
+use Rattle.line.proofs.OutcomeLaws.{map-refused}
+use Rattle.line.specs.Answer.{done, mapDone}
+use Rattle.journal.specs.Survey.{surveyOf, surveyedAs}
+use Rattle.journal.specs.Walk.{decode}
+use Rattle.journal.proofs.ReadLaws.{survey-lies, survey-hands, refused-oldest}
 use borrow.Author.Needs.{needs}
 use Rattle.journal.proofs.record.oldest.Statement.{statement}
 use Rattle.journal.proofs.record.oldest.Tie as tie
 
-check-requires : tie.Need-check-requires
-check-requires c κs = search needs
+-- what the survey found
+found : (c : tie.After-surveyed) →
+    let a = c .before .before .before .before .args in
+    mapDone (surveyOf (a .index)) (decode (a .journal .now)) ≡ done (c .surveyed .given .0 .0)
+found c = sym (c .before .before .survey .ensures) ∙ ap surveyedAs (c .surveyed .given .1)
 
-enum-known-checked : tie.Need-enum-known-checked
-enum-known-checked c = search needs
+survey-requires : tie.Need-survey-requires
+survey-requires c κs = search needs
+
+enum-known-surveyed : tie.Need-enum-known-surveyed
+enum-known-surveyed c = search needs
 
 enum-told : tie.Need-enum-told
 enum-told c = search needs
@@ -21,43 +33,44 @@ slice-aggregate-result c = search needs
 returns : tie.Need-returns
 returns c =
     let d = c .before .before .before in
-    let (_, none) = refused-output _ _ (sym (d .check .ensures) ∙ ap writtenAs (c .before .enum-told .given .1)) in
-    rw none
+    let a = d .before .before .args in
+    refused-oldest _ _ _ (map-refused (surveyOf (a .index)) (decode (a .journal .now)) _ (sym (d .survey .ensures) ∙ ap surveyedAs (c .before .enum-told .given .1)))
 
-slice-aggregate-result-2 : tie.Need-slice-aggregate-result-2
-slice-aggregate-result-2 c = search needs
+add-end : tie.Need-add-end
+add-end c =
+    let l = survey-lies _ _ _ (found (c .before .before .before)) in
+    omega arith
+
+sub-result : tie.Need-sub-result
+sub-result c = search needs
+
+part-result-start : tie.Need-part-result-start
+part-result-start c = search needs
+
+part-result-end : tie.Need-part-result-end
+part-result-end c =
+    let l = survey-lies _ _ _ (found (c .before .before .before)) in
+    omega arith
 
 returns-2 : tie.Need-returns-2
 returns-2 c =
-    let d = c .before .before .before in
-    oldest-past _ _ _ (sym (d .before .before .check .ensures) ∙ ap writtenAs (d .checked .given .1)) (c .before .if1 .taken)
-
-sub-newest : tie.Need-sub-newest
-sub-newest c = search needs
-
-sub-newest-2 : tie.Need-sub-newest-2
-sub-newest-2 c = search needs
-
-newest-requires : tie.Need-newest-requires
-newest-requires c κs = search needs
-
-returns-3 : tie.Need-returns-3
-returns-3 c =
-    let d = c .before .before .before in
-    c .newest .ensures ∙ oldest-newest _ _ _ (sym (d .before .before .check .ensures) ∙ ap writtenAs (d .checked .given .1)) (c .before .if1 .left)
+    let d = c .before .before .before .before in
+    let journal = d .before .before .before .before .args .journal in
+    let e = d .surveyed .given .0 .0 .here in
+    let part : e .start + e .length - e .start ≡ e .length = omega arith in
+    rw part (survey-hands _ _ _ (found d) (ap (λ n. (journal .ptr .0, n)) (add-comm (e .start) (journal .ptr .1))))
 
 pub oldest-spec : {M : Type 1} → statement M
 oldest-spec =
     tie.close
     (tie.spec
-    check-requires
-    enum-known-checked
+    survey-requires
+    enum-known-surveyed
     enum-told
     slice-aggregate-result
     returns
-    slice-aggregate-result-2
-    returns-2
-    sub-newest
-    sub-newest-2
-    newest-requires
-    returns-3)
+    add-end
+    sub-result
+    part-result-start
+    part-result-end
+    returns-2)

@@ -2,7 +2,6 @@
 use mathlib.Core.Path.{refl}
 use borrow.Author.Tests.{lt-ltb, le-ltb}
 use Rattle.line.specs.Answer.{copied}
-use Rattle.line.specs.declared.answer.Refusal.the-variants.{Size}
 use Rattle.line.proofs.OverlayLaws.{wrote-refused, wrote-done}
 use borrow.Author.Needs.{needs}
 use Rattle.line.proofs.memory.copy.Statement.{statement}
@@ -10,7 +9,7 @@ use Rattle.line.proofs.memory.copy.Tie as tie
 
 returns : tie.Need-returns
 unfolding copied
-returns c = wrote-refused Size _ (rw (lt-ltb _ _ (c .if1 .taken)))
+returns c = wrote-refused _ _ (rw (lt-ltb _ _ (c .if1 .taken)))
 
 put-requires : tie.Need-put-requires
 put-requires c κs = c .before .if1 .left

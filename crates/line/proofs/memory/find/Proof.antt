@@ -3,7 +3,7 @@ use mathlib.Core.Path.{_≡_, refl, _∙_}
 use Prim.Native.Nat.{_+_, _-_}
 use lib.ListN.{length, drop}
 use Rattle.line.specs.Test.{before}
-use Rattle.line.proofs.AllLaws.{before-here, before-further, before-none}
+use Rattle.line.proofs.FindLaws.{before-here, before-further, before-none}
 use borrow.Author.Needs.{needs}
 use native.Mathlib.Omega.{arith}
 use Rattle.line.proofs.memory.find.Statement.{statement}

@@ -2,7 +2,6 @@
 use mathlib.Core.Path.{sym, _∙_}
 use borrow.Author.Tests.{lt-ltb, le-ltb, not-true, not-false}
 use Rattle.line.specs.Parity.{parityOn, withParity}
-use Rattle.line.specs.declared.answer.Refusal.the-variants.{Size, Parity}
 use Rattle.line.proofs.OverlayLaws.{wrote-refused, wrote-map}
 use borrow.Author.Needs.{needs}
 use Rattle.line.proofs.parity.set_parity.Statement.{statement}
@@ -10,7 +9,7 @@ use Rattle.line.proofs.parity.set_parity.Tie as tie
 
 returns : tie.Need-returns
 unfolding parityOn
-returns c = wrote-refused Size _ (rw (lt-ltb _ _ (c .if1 .taken)))
+returns c = wrote-refused _ _ (rw (lt-ltb _ _ (c .if1 .taken)))
 
 are-requires : tie.Need-are-requires
 are-requires c κs = search needs
@@ -19,7 +18,7 @@ returns-2 : tie.Need-returns-2
 unfolding parityOn
 returns-2 c =
     let odd = sym (c .before .are .ensures) ∙ not-true _ (c .if2 .taken) in
-    wrote-refused Parity _ (rw (le-ltb _ _ (c .before .before .if1 .left), odd))
+    wrote-refused _ _ (rw (le-ltb _ _ (c .before .before .if1 .left), odd))
 
 put-parity-requires : tie.Need-put-parity-requires
 put-parity-requires c κs = (sym (c .before .before .are .ensures) ∙ not-false _ (c .before .if2 .left), c .before .before .before .if1 .left)

@@ -1,4 +1,4 @@
--- `count` is safe: there are at most as many spaces as characters passed.
+-- `count` is safe: there are at most as many marks as characters passed.
 use Prim.Native.Nat.{_≤_, _-_}
 use borrow.Author.Needs.{needs}
 use lib.ListN.{length}
@@ -14,11 +14,11 @@ abbrev μ-loop : tie.MeasureT-loop
 loop-holds : tie.Need-loop-holds Inv-loop μ-loop
 loop-holds c = search needs
 
-shared-slice-read-spaces : tie.Need-shared-slice-read-spaces Inv-loop μ-loop
-shared-slice-read-spaces c = search needs
+shared-slice-read-marks : tie.Need-shared-slice-read-marks Inv-loop μ-loop
+shared-slice-read-marks c = search needs
 
-spaces-requires : tie.Need-spaces-requires Inv-loop μ-loop
-spaces-requires c κs = search needs
+marks-requires : tie.Need-marks-requires Inv-loop μ-loop
+marks-requires c κs = search needs
 
 add-n : tie.Need-add-n Inv-loop μ-loop
 add-n c = search needs
@@ -42,8 +42,8 @@ count-spec =
     Inv-loop
     μ-loop
     loop-holds
-    shared-slice-read-spaces
-    spaces-requires
+    shared-slice-read-marks
+    marks-requires
     add-n
     add-i
     loop-less

@@ -1,7 +1,7 @@
--- `word` is safe: both ends of the word lie within the call.
+-- `word` is safe: both ends of the word lie within the text.
 use native.Mathlib.Omega.{arith}
 use borrow.Author.Needs.{needs}
-use Rattle.line.proofs.AllLaws.{find-within}
+use Rattle.line.proofs.FindLaws.{find-within}
 use Rattle.vectors.proofs.argument.word.Statement.{statement}
 use Rattle.vectors.proofs.argument.word.Tie as tie
 
@@ -20,7 +20,7 @@ part-result-start c = search needs
 part-result-end : tie.Need-part-result-end
 part-result-end c =
     let a = c .before .before .before .args in
-    omega (arith, find-within 0x20 (a .call .now) (c .before .word-start .result) (c .before .word-start .ensures))
+    omega (arith, find-within (a .mark) (a .text .now) (c .before .word-start .result) (c .before .word-start .ensures))
 
 returns : tie.Need-returns
 returns c = search needs

@@ -1,4 +1,4 @@
--- `word_start` is safe: it stays within the call.
+-- `word_start` is safe: it stays within the text.
 use Prim.Native.Nat.{_≤_, _-_}
 use borrow.Author.Needs.{needs}
 use lib.ListN.{length}
@@ -6,10 +6,10 @@ use Rattle.vectors.proofs.argument.word_start.Statement.{statement}
 use Rattle.vectors.proofs.argument.word_start.Tie as tie
 
 abbrev Inv-loop : tie.InvT-loop
-Inv-loop call index left₀ i₀ left i = i ≤ length call
+Inv-loop text index mark left₀ i₀ left i = i ≤ length text
 
 abbrev μ-loop : tie.MeasureT-loop
-μ-loop call index left₀ i₀ left i = length call - i
+μ-loop text index mark left₀ i₀ left i = length text - i
 
 loop-holds : tie.Need-loop-holds Inv-loop μ-loop
 loop-holds c = search needs
@@ -17,11 +17,11 @@ loop-holds c = search needs
 returns : tie.Need-returns Inv-loop μ-loop
 returns c = search needs
 
-shared-slice-read-spaces : tie.Need-shared-slice-read-spaces Inv-loop μ-loop
-shared-slice-read-spaces c = search needs
+shared-slice-read-marks : tie.Need-shared-slice-read-marks Inv-loop μ-loop
+shared-slice-read-marks c = search needs
 
-spaces-requires : tie.Need-spaces-requires Inv-loop μ-loop
-spaces-requires c κs = search needs
+marks-requires : tie.Need-marks-requires Inv-loop μ-loop
+marks-requires c κs = search needs
 
 sub-left : tie.Need-sub-left Inv-loop μ-loop
 sub-left c = search needs
@@ -46,8 +46,8 @@ word-start-spec =
     μ-loop
     loop-holds
     returns
-    shared-slice-read-spaces
-    spaces-requires
+    shared-slice-read-marks
+    marks-requires
     sub-left
     add-i
     loop-less

@@ -1,0 +1,2 @@
+pub mod SegmentationLaws
+pub mod WayLaws
