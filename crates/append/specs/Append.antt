@@ -30,7 +30,8 @@ behind buffer p t =
     else if not (roomAt p t) then refused 8
     else done (extended buffer p t)
 
--- the bytes of a journal with one record more, by its trailer alone: 1 and 7 by the buffer and the trailer, then 2 and 8 (R-9.6)
+-- the bytes of a journal with one record more, by its trailer alone: 1 and 7 by the buffer and the trailer, then 2 and 8
+-- (R-9.6)
 unfoldable pub extendTo : List ℕ → ℕ → List ℕ → Outcome (List ℕ)
 extendTo buffer n t = andThen (trailerIn buffer n) (λ p. behind buffer p t)
 

@@ -29,7 +29,8 @@ pub record State : Type 0 where
   pub written : List ℕ
   pub waits : List ℕ
 
--- what is written out before a line is printed: what waits, where a buffer of so many bytes has no room behind it for what any line prints
+-- what is written out before a line is printed: what waits, where a buffer of so many bytes has no room behind it for what
+-- any line prints
 unfoldable pub leaves : ℕ → List ℕ → List ℕ
 leaves room waits = if ltb room (length waits + 10248) then waits else []
 

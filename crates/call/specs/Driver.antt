@@ -60,7 +60,8 @@ pub record Holds (s : Setup) (e : Ends Transactions) (k : Kept) : Type 0 where
 abbrev pub opening : Setup → DeviceStep.Sent
 opening s = DeviceStep.sent (s .device) (jobOf s) (goes (Opening first))
 
--- what is kept before the first transmission: the device started, the central before its first call, a journal of n bytes (R-10.10)
+-- what is kept before the first transmission: the device started, the central before its first call, a journal of n bytes
+-- (R-10.10)
 abbrev pub starting : Setup → List ℕ → ℕ → Kept
 starting s buffer n =
     record {

@@ -113,35 +113,34 @@ module _ (k : Control) (buffer : List ℕ) (bytes : all byte buffer ≡ true) (r
 
   module _ (settings : Settings) (pagers t : List ℕ) (good : legal t ≡ true) {a : Admitted} {buffer′ : List ℕ}
       (w : Admits (admitTo (settings .longest) pagers buffer (k .journal) t) a buffer buffer′) where
-    -- what admission comes to
+    -- what admission asks
     abbrev fits : Bool
     fits = admits (settings .longest) pagers transactions held t
+
+    -- and what it leaves
+    admitted : (admittedAs a ≡ done (if fits then some (sizeOf (transactions .put held t)) else none)) ×
+        (buffer′ ≡ storedIn (done (if fits then transactions .put held t else held)) buffer)
+    admitted = admit-stores (settings .longest) pagers buffer (k .journal) t held bytes read good w
 
     -- it is admitted, and stored
     pub concludes-stored : (array : List ℕ) (u : Control) {r : Reacted} → admittedAs a ≡ done (some (u .journal)) → u .length ≤ length array →
         Does (λ c. record { next = at Block [] (c .journal); answer = ack }) u r → Stores (concludesIn settings pagers k array buffer t) r array array buffer buffer′
     concludes-stored array u {r} e h does = go fits refl
       where
-        both : (admittedAs a ≡ done (if fits then some (sizeOf (transactions .put held t)) else none)) × (buffer′ ≡ storedIn (done (if fits then transactions .put held t else held)) buffer)
-        both = admit-stores (settings .longest) pagers buffer (k .journal) t held bytes read good w
-
         go : (b : Bool) → fits ≡ b → Stores (concludesIn settings pagers k array buffer t) r array array buffer buffer′
         go true f =
             let d = does array (transactions .put held t) h in
-            let size : sizeOf (transactions .put held t) ≡ u .journal = cc (e, rw f at (both .0)) in
-            rw f record { answers = d .answers; control = rw size (d .control); pending = sym (d .kept); stored = rw f at (both .1) }
-        go false f = let z : _≡_ {A = ℕ} 0 1 = cc (e, rw f at (both .0)) in absurd (omega arith)
+            let size : sizeOf (transactions .put held t) ≡ u .journal = cc (e, rw f at (admitted .0)) in
+            rw f record { answers = d .answers; control = rw size (d .control); pending = sym (d .kept); stored = rw f at (admitted .1) }
+        go false f = let z : _≡_ {A = ℕ} 0 1 = cc (e, rw f at (admitted .0)) in absurd (omega arith)
 
     -- it is not
     pub concludes-dropped : (array : List ℕ) {r : Reacted} → OneOf (1 ∷ 2 ∷ []) (tagOf the-type a) → k .length ≤ length array →
         Does (λ c. record { next = at Block [] (c .journal); answer = rs }) k r → Stores (concludesIn settings pagers k array buffer t) r array array buffer buffer′
     concludes-dropped array {r} e h does = go fits refl
       where
-        both : (admittedAs a ≡ done (if fits then some (sizeOf (transactions .put held t)) else none)) × (buffer′ ≡ storedIn (done (if fits then transactions .put held t else held)) buffer)
-        both = admit-stores (settings .longest) pagers buffer (k .journal) t held bytes read good w
-
         go : (b : Bool) → fits ≡ b → Stores (concludesIn settings pagers k array buffer t) r array array buffer buffer′
-        go true f = let z : _≡_ {A = ℕ} 0 1 = cc (not-stored a _ e (both .0), rw f at (both .0)) in absurd (omega arith)
+        go true f = let z : _≡_ {A = ℕ} 0 1 = cc (not-stored a _ e (admitted .0), rw f at (admitted .0)) in absurd (omega arith)
         go false f =
             let d = does-stores (λ c. record { next = at Block [] (c .journal); answer = rs }) array h does in
-            rw f record { answers = d .answers; control = d .control; pending = d .pending; stored = rw f at (both .1) }
+            rw f record { answers = d .answers; control = d .control; pending = d .pending; stored = rw f at (admitted .1) }

@@ -1,4 +1,6 @@
--- What the functions inside a step ask and owe. They work on a saved state in two parts, its control and the array of unfinished information.
+-- What the functions inside a step ask and owe. They work on a saved state in two parts: its control, and the array of
+-- unfinished
+-- information.
 use mathlib.Core.Bool.{Bool, true}
 use mathlib.Core.List.{List, _++_}
 use mathlib.Core.Path.{_≡_}
@@ -108,7 +110,11 @@ Does f k r =
 
 -- the transaction goes on with this information
 pub record Continues (k : Control) (info : List ℕ) (r : Reacted) (array array′ : List ℕ) : Type 0 where
-  pub reacted : r ≡ record { answer = Ack; control = record { stage = Block; failures = 0; length = k .length + length info; journal = k .journal } }
+  pub reacted : r ≡
+      record {
+        answer = Ack;
+        control = record { stage = Block; failures = 0; length = k .length + length info; journal = k .journal };
+      }
   pub laid : array′ ≡ overlay (pendingIn k array ++ info) array
 
 -- the answer, the control, the array and the journal's buffer are a reaction's

@@ -33,7 +33,8 @@ answerText hangUp = CR ∷ ESC ∷ EOT ∷ CR ∷ []
 abbrev pub answerBytes : Answer → List ℕ
 answerBytes a = map withParity (answerText a)
 
--- the central's rules: its password, the longest transaction (L), the retry limit (C), the pager list; and how its journal stores (R-7.1)
+-- the central's rules: its password, the longest transaction (L), the retry limit (C), the pager list; and how its journal
+-- stores (R-7.1)
 pub record Rules (J : Type 0) : Type 0 where
   pub password : List ℕ
   pub longest : ℕ
@@ -71,7 +72,11 @@ module _ {J : Type 0} where
   abbrev pub fails : Rules J → Central J → Reaction J
   fails r c =
       if eqb (c .failures) (r .retries) then record { next = at Closed [] (c .journal); answer = hangUp }
-      else record { next = record { stage = c .stage; failures = c .failures + 1; pending = c .pending; journal = c .journal }; answer = nak }
+      else
+      record {
+        next = record { stage = c .stage; failures = c .failures + 1; pending = c .pending; journal = c .journal };
+        answer = nak;
+      }
 
   -- a logon: `PG1` with the equal password is accepted (R-7.5)
   abbrev pub logsOnWith : Rules J → Central J → List ℕ → Reaction J
@@ -87,7 +92,8 @@ module _ {J : Type 0} where
   abbrev pub stores : Rules J → Central J → List ℕ → Reaction J
   stores r c t = record { next = at Block [] (r .storage .put (c .journal) t); answer = ack }
 
-  -- a block whose information is right, with which the transaction so far is t: refused over L, and at its end unless it is admitted;
+  -- a block whose information is right, with which the transaction so far is t: refused over L, and at its end unless it is
+  -- admitted;
   -- else acknowledged, and at its end appended first (R-7.5)
   abbrev pub takes : Rules J → Central J → List ℕ → Bool → Reaction J
   takes r c t goesOn =

@@ -12,6 +12,7 @@ use Rattle.line.specs.Parity.{even, withParity, flipTop}
 use Rattle.line.specs.Test.{if_then_else_, all}
 use Rattle.reply.proofs.GrammarLaws.{flipped-unrecognized}
 use Rattle.line.proofs.OutcomeLaws.{choice}
+use Rattle.central.proofs.AnswerLaws.{answer-seven}
 use Rattle.central.proofs.HearingLaws.{flipped-noise}
 use Rattle.central.specs.Reaction.{Answer, nothing, idRequest, acceptance, ack, nak, rs, hangUp, answerText}
 use Rattle.device.proofs.StringLaws.{string-seven}
@@ -64,17 +65,6 @@ first-even (c ∷ cs) h b bs e =
     let narrow = and-eq-true-iff (seven c) (all seven cs) .0 h .0 in
     let same : withParity c ≡ b = cc in
     rw (← same) (with-byte c narrow, with-even c narrow)
-
--- an answer is made of 7-bit values
-answer-seven : (x : Answer) → all seven (answerText x) ≡ true
-unfolding all
-answer-seven nothing = refl
-answer-seven idRequest = refl
-answer-seven acceptance = refl
-answer-seven ack = refl
-answer-seven nak = refl
-answer-seven rs = refl
-answer-seven hangUp = refl
 
 -- along a run that is not refused
 module _ {J : Type 0} (i : Inputs J) (l : Legal i) where

@@ -1,4 +1,5 @@
--- The clean verdicts and the clean journals (document 01, "The run"): worked out from the job, the rules and the starting journal, with no run.
+-- The clean verdicts and the clean journals (document 01, "The run"): worked out from the job, the rules and the starting
+-- journal, with no run.
 use mathlib.Core.Bool.{Bool}
 use mathlib.Core.List.{List, [], _∷_, foldl}
 use Prim.Native.Nat.{ℕ}

@@ -23,7 +23,8 @@ use Rattle.demand.specs.Run.{Damage, whole, nothing, other, Transit, Dam
 
 -- ── What a run has tested ──
 
--- inputs that a run does not refuse, as far as the claim needs it: the job's transactions are legal, and the device's password is one
+-- inputs that a run does not refuse, as far as the claim needs it: the job's transactions are legal, and the device's
+-- password is one
 pub record Legal {J : Type 0} (i : Inputs J) : Type 0 where
   pub job : allLegal (i .job) ≡ true
   pub password : passwordInRange (i .device .password) ≡ true
@@ -103,7 +104,8 @@ Kept vs vs′ = (n : ℕ) → decides (verdictAt vs n) ≡ true → verdictAt vs
 abbrev pub shortened : {J : Type 0} → Inputs J → ℕ → Inputs J
 shortened i k = record { job = take k (i .job); device = i .device; rules = i .rules; journal = i .journal }
 
--- the verdicts vs and the journal j that a run leaves agree with the clean verdicts and the clean journals after each number of transactions,
+-- the verdicts vs and the journal j that a run leaves agree with the clean verdicts and the clean journals after each number
+-- of transactions,
 -- as far as they go: up to k, the number of verdicts that are accepted or rejected (R-10.8)
 pub record Agrees {J : Type 0} (clean : List Verdict) (journals : ℕ → J) (vs : List Verdict) (j : J) (k : ℕ) : Type 0 where
   -- the first k verdicts are the first k of the clean run

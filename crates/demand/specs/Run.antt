@@ -1,4 +1,5 @@
--- The run of both ends over a line that may damage what it carries (document 01, "The run"): over the steps' own definitions, byte for byte,
+-- The run of both ends over a line that may damage what it carries (document 01, "The run"): over the steps' own
+-- definitions, byte for byte,
 -- whatever the central's journal is made of.
 use mathlib.Core.List.{List, [], _∷_, tail}
 use Prim.Native.Nat.{ℕ, zero, suc, _+_, _*_}
@@ -49,14 +50,16 @@ next (d ∷ ds) = d
 
 -- ── Both ends ──
 
--- what a run takes: the job, the device's settings (its password, D), the central's rules (its password, L, C, the pager list, its journal's room), and the starting journal (R-10.1)
+-- what a run takes: the job, the device's settings (its password, D), the central's rules (its password, L, C, the pager
+-- list, its journal's room), and the starting journal (R-10.1)
 pub record Inputs (J : Type 0) : Type 0 where
   pub job : List (List ℕ)
   pub device : Settings
   pub rules : Rules J
   pub journal : J
 
--- both ends between two transmissions: the device's step, the verdicts so far and what it reported; the central; and how many strings the device has put out (R-10.1)
+-- both ends between two transmissions: the device's step, the verdicts so far and what it reported; the central; and how
+-- many strings the device has put out (R-10.1)
 pub record Ends (J : Type 0) : Type 0 where
   pub step : Step
   pub verdicts : List Verdict
@@ -134,7 +137,8 @@ module _ {J : Type 0} where
   after i zero ds e = e
   after i (suc n) ds e = after i n (tail ds) (exchange i (next ds) e)
 
-  -- as many transmissions as a run takes at most: three for the opening, and D + 1 for the logon, for each block and for the close (R-10.2)
+  -- as many transmissions as a run takes at most: three for the opening, and D + 1 for the logon, for each block and for the
+  -- close (R-10.2)
   abbrev pub mostTransmissions : Inputs J → ℕ
   mostTransmissions i = 3 + (i .device .retries + 1) * (jobBlocks (i .device) (i .job) + 2)
 

@@ -161,7 +161,8 @@ logsOn settings job p Unrecognized = goes Stopped
 
 -- ── Block ──
 
--- a reply as this step reads it: one of the four codes; all else, an ID request and a logon acceptance too, is unread (R-6.4, R-6.5)
+-- a reply as this step reads it: one of the four codes; all else, an ID request and a logon acceptance too, is unread
+-- (R-6.4, R-6.5)
 abbrev pub blockReply : Reply → BlockReply
 blockReply (Recognized Ack) = Block.Recognized Code.Ack
 blockReply (Recognized Nak) = Block.Recognized Code.Nak

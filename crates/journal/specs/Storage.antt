@@ -1,4 +1,5 @@
--- A journal to those who store in it: room and one record more; and today's journal, a list of transactions, at the start of a lent buffer.
+-- A journal to those who store in it: room and one record more; and today's journal, a list of transactions, at the start of
+-- a lent buffer.
 use mathlib.Core.Bool.{Bool, not}
 use mathlib.Core.List.{List, [], _∷_, _++_}
 use Prim.Native.Nat.{ℕ}

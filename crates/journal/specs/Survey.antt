@@ -23,7 +23,8 @@ extentsFrom at (t ∷ ts) = record { start = at; length = length t } ∷ extents
 abbrev pub extentAt : List (List ℕ) → ℕ → Extent
 extentAt ts i = getD (extentsFrom 0 ts) i nowhere
 
--- what one walk finds: how many records there are, and where the one at an index from the oldest and the one behind it lie (R-9.7)
+-- what one walk finds: how many records there are, and where the one at an index from the oldest and the one behind it lie
+-- (R-9.7)
 abbrev pub surveyOf : ℕ → List (List ℕ) → Located
 surveyOf i ts = record { count = length ts; here = extentAt ts i; next = extentAt ts (i + 1) }
 
@@ -41,7 +42,8 @@ pub record Lies (b : List ℕ) (e : Extent) (t : List ℕ) : Type 0 where
 abbrev pub partAt : ℕ × ℕ → List (List ℕ) → ℕ → ℕ × ℕ
 partAt journal ts i = (journal .0, journal .1 + extentAt ts i .start)
 
--- the information that is handed back of the record at an index from the oldest: what it holds, and the very part where it lies (R-9.7)
+-- the information that is handed back of the record at an index from the oldest: what it holds, and the very part where it
+-- lies (R-9.7)
 pub record HandedOldest (b : List ℕ) (i : ℕ) (journal : ℕ × ℕ) (info : List ℕ) (part : ℕ × ℕ) : Type 0 where
   pub holds : info ≡ getD (output (decode b)) i []
   pub lies : (ts : List (List ℕ)) → decode b ≡ done ts → i < length ts → part ≡ partAt journal ts i

@@ -44,7 +44,8 @@ unfoldable pub walkBack : ℕ → List ℕ → Outcome (List (List ℕ))
 walkBack zero b = if eqb (length b) 0 then done [] else refused 7
 walkBack (suc k) b = andThen (stepBack b) (λ m. mapDone (λ ts. m .transaction ∷ ts) (walkBack k (m .before)))
 
--- where the walk starts: the end of the records and their number, as the trailer has them. 7 where it is past the limits or disagrees with the length (R-9.2)
+-- where the walk starts: the end of the records and their number, as the trailer has them. 7 where it is past the limits or
+-- disagrees with the length (R-9.2)
 unfoldable pub trailer : List ℕ → Outcome Position
 trailer b =
     if ltb (length b) 4 then refused 7
@@ -83,7 +84,8 @@ placeOf left m =
       next = record { end = length (m .before); left = left - 1 };
     }
 
--- a step from a position: 9 where it lies outside the bytes; at the end all bytes are met, else 7; 7 too as one step back has it (R-9.8)
+-- a step from a position: 9 where it lies outside the bytes; at the end all bytes are met, else 7; 7 too as one step back
+-- has it (R-9.8)
 unfoldable pub stepFrom : List ℕ → Position → Outcome (Option Place)
 stepFrom b p =
     if ltb (length b) (p .end) then refused 9

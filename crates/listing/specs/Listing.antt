@@ -61,7 +61,8 @@ unfoldable pub fieldsOf : List ℕ → List ℕ
 fieldsOf [] = CR ∷ []
 fieldsOf (c ∷ line) = if eqb c 0x20 then CR ∷ line ++ CR ∷ [] else c ∷ fieldsOf line
 
--- the place of a line's first space; 2 over 1,999 characters, 3 by a byte of 80 hex or more, 6 by another wrong character or no space (R-12.3)
+-- the place of a line's first space; 2 over 1,999 characters, 3 by a byte of 80 hex or more, 6 by another wrong character or
+-- no space (R-12.3)
 unfoldable pub checkedLine : List ℕ → Outcome ℕ
 checkedLine line =
     if ltb 1999 (length line) then refused 2

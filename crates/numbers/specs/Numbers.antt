@@ -1,4 +1,5 @@
--- Document 01's starred numbers ("Numbers to hold it to"), as one table under one statement, `AllHold table`, which `proofs/Numbers` proves.
+-- Document 01's starred numbers ("Numbers to hold it to"), as one table under one statement, `AllHold table`, which
+-- `proofs/Numbers` proves.
 use mathlib.Core.List.{List, [], _∷_, _++_, map}
 use mathlib.Core.Path.{_≡_}
 use Prim.Native.Nat.{ℕ}

@@ -13,7 +13,8 @@ use Rattle.reply.specs.declared.Meaning.the-variants.{IdRequest, Accepta
 use Rattle.reply.specs.declared.Reply.{Reply}
 use Rattle.reply.specs.declared.Reply.the-variants.{Recognized, Unrecognized}
 
--- what follows the whole lines at the start of a text. `rest` follows those met so far; `ended`: the last character was their CR, which a LF may follow
+-- what follows the whole lines at the start of a text. `rest` follows those met so far; `ended`: the last character was
+-- their CR, which a LF may follow
 unfoldable pub restAfter : List ℕ → Bool → List ℕ → List ℕ
 restAfter rest ended [] = rest
 restAfter rest ended (c ∷ text) =

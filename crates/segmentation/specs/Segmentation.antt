@@ -29,7 +29,8 @@ segmentsBy cut (suc k) t =
 abbrev pub filled : List ℕ → ℕ
 filled t = 250
 
--- the segmentation of a transaction: a block takes a character or more, so there are at most as many blocks as characters (R-3.2)
+-- the segmentation of a transaction: a block takes a character or more, so there are at most as many blocks as characters
+-- (R-3.2)
 unfoldable pub segmentation : List ℕ → List Segment
 segmentation t = segmentsBy filled (length t) t
 
