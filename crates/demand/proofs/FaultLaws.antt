@@ -14,7 +14,7 @@ use Rattle.reply.proofs.GrammarLaws.{flipped-unrecognized}
 use Rattle.line.proofs.OutcomeLaws.{choice}
 use Rattle.central.proofs.AnswerLaws.{answer-seven}
 use Rattle.central.proofs.HearingLaws.{flipped-noise}
-use Rattle.central.specs.Reaction.{Answer, nothing, idRequest, acceptance, ack, nak, rs, hangUp, answerText}
+use Rattle.central.specs.Reaction.{nothing, answerText}
 use Rattle.device.proofs.StringLaws.{string-seven}
 use Rattle.demand.specs.Demand.{Legal, Replaced, Unheard, NoReply, FairAt, FairFor, Fair}
 use Rattle.demand.specs.Faults.{garbled, damage, damages, damagesFrom, faulted}

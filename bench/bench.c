@@ -1,0 +1,685 @@
+// The operations of the table, on one side: the product through its header (-DPRODUCT), or the C twin.
+// bench: each operation once, measured by callgrind, and a line with its answer.
+// bench SEED CALLS: that many random calls of each function, a tenth as many runs, and a line with a
+// hash of all answers and how often each number was answered.
+// Both sides print the same lines, or one of them is wrong.
+#include <stdio.h>
+#include <stdlib.h>
+#include <string.h>
+#include <valgrind/callgrind.h>
+#include "twin.h"
+#ifdef PRODUCT
+#include "../include/tyntolai.h"
+#define SIDE(name) tyntolai_##name
+#else
+#define SIDE(name) twin_##name
+#endif
+
+enum { CR = 0x0D, BUFFER = TWIN_BUFFER };
+
+// ---- hashes of answers and memory
+
+static const uint64_t START = 0xCBF29CE484222325u;
+
+static uint64_t hash = 0xCBF29CE484222325u;
+
+static void mix(const void *memory, size_t n) {
+    const uint8_t *p = memory;
+    for (size_t i = 0; i < n; i++) hash = (hash ^ p[i]) * 0x100000001B3u;
+}
+
+static void mix_number(size_t n) { mix(&n, sizeof n); }
+
+static void mix_answer(size_t code, size_t count) {
+    mix_number(code);
+    mix_number(count);
+}
+
+// ---- both sides' functions in one form; a name asks for a measurement
+
+static void report(const char *name, size_t code, size_t count) {
+    if (name) printf("%s: %zu %zu %016llx\n", name, code, count, (unsigned long long)hash);
+}
+
+#define MEASURED(name, call)                          \
+    if (name) CALLGRIND_TOGGLE_COLLECT;               \
+    call;                                             \
+    if (name) {                                       \
+        CALLGRIND_TOGGLE_COLLECT;                     \
+        CALLGRIND_DUMP_STATS_AT(name);                \
+    }
+
+// A call that answers with a count and writes so much memory.
+#define ANSWERED(name, call, memory, size)            \
+    do {                                              \
+        const char *called = name;                    \
+        MEASURED(called, SIDE(answer) made = call)    \
+        mix_answer(made.code, made.count);            \
+        mix(memory, size);                            \
+        report(called, made.code, made.count);        \
+        code = made.code;                             \
+        count = made.count;                           \
+    } while (0)
+
+// A call that answers with a number.
+#define NUMBERED(name, call)                          \
+    do {                                              \
+        const char *called = name;                    \
+        MEASURED(called, size_t made = call)          \
+        mix_number(made);                             \
+        report(called, 0, made);                      \
+    } while (0)
+
+static size_t code, count;
+
+static uint8_t out[4096];
+
+#ifdef PRODUCT
+static tyntolai_password side_password(const twin_password *p) {
+    tyntolai_password q = {{0}, p->length};
+    memcpy(q.characters, p->characters, 6);
+    return q;
+}
+
+static tyntolai_device_settings side_device(const twin_device_settings *s) {
+    return (tyntolai_device_settings){side_password(&s->password), s->retries};
+}
+
+static tyntolai_central_settings side_central(const twin_central_settings *s) {
+    return (tyntolai_central_settings){side_password(&s->password), s->longest, s->retries};
+}
+#endif
+
+// The state before the first call.
+static void central_start(twin_central *s, size_t length) {
+#ifdef PRODUCT
+    tyntolai_central_state state = tyntolai_central_start(length);
+    _Static_assert(sizeof state == sizeof *s, "the two sides' records of a central are laid out alike");
+    memcpy(s, &state, sizeof state);
+#else
+    twin_central_start(s, length);
+#endif
+}
+
+static void central_step(const char *name, twin_central *s, const twin_central_settings *t, const uint32_t *pagers,
+                         size_t pager_count, uint8_t *journal, size_t size, const uint8_t *string, size_t n,
+                         size_t room) {
+#ifdef PRODUCT
+    tyntolai_central_state state;
+    tyntolai_central_settings settings = side_central(t);
+    memcpy(&state, s, sizeof state);
+    MEASURED(name, tyntolai_central_stepped r = tyntolai_central_step(state, settings, pagers, pager_count, journal,
+                                                                      size, string, n, out, room))
+    memcpy(s, &r.state, sizeof *s);
+    tyntolai_answer a = r.answer;
+#else
+    MEASURED(name, twin_answer a = twin_central_step(s, t, pagers, pager_count, journal, size, string, n, out, room))
+#endif
+    mix_answer(a.code, a.count);
+    mix_number(s->stage);
+    mix_number(s->failures);
+    mix_number(s->length);
+    mix_number(s->journal);
+    if (s->length <= TWIN_PENDING) mix(s->pending, s->length);
+    mix(journal, size);
+    mix(out, 16);
+    report(name, a.code, a.count);
+    code = a.code;
+    count = a.count;
+}
+
+static void central_hang_up(twin_central *s, const twin_central_settings *t) {
+#ifdef PRODUCT
+    tyntolai_central_state state;
+    memcpy(&state, s, sizeof state);
+    tyntolai_central_stepped r = tyntolai_central_hang_up(state, side_central(t));
+    memcpy(s, &r.state, sizeof *s);
+    tyntolai_answer a = r.answer;
+#else
+    twin_answer a = twin_central_hang_up(s, t);
+#endif
+    mix_answer(a.code, a.count);
+    mix_number(s->stage);
+    mix_number(s->failures);
+    mix_number(s->length);
+    mix_number(s->journal);
+    code = a.code;
+}
+
+static void device_step(const char *name, int starts, twin_device *s, twin_given *g, const twin_device_settings *t,
+                        const uint8_t *job, size_t n, const uint8_t *reply, size_t reply_length, size_t room) {
+#ifdef PRODUCT
+    tyntolai_device_state state = {s->step, s->transaction, s->block, s->attempts};
+    tyntolai_device_settings settings = side_device(t);
+    MEASURED(name, tyntolai_device_stepped r =
+                       starts ? tyntolai_device_start(settings, job, n, out, room)
+                              : tyntolai_device_step(state, settings, job, n, reply, reply_length, out, room))
+    *s = (twin_device){r.state.step, r.state.transaction, r.state.block, r.state.attempts};
+    *g = (twin_given){r.verdict, r.transaction, r.report};
+    tyntolai_answer a = r.answer;
+#else
+    *g = (twin_given){0, 0, 0};
+    MEASURED(name, twin_answer a = starts ? twin_device_start(s, t, job, n, out, room)
+                                          : twin_device_step(s, g, t, job, n, reply, reply_length, out, room))
+#endif
+    mix_answer(a.code, a.count);
+    mix_number(s->step);
+    mix_number(s->transaction);
+    mix_number(s->block);
+    mix_number(s->attempts);
+    mix_number(g->verdict);
+    mix_number(g->transaction);
+    mix_number(g->report);
+    mix(out, 300);
+    report(name, a.code, a.count);
+    code = a.code;
+    count = a.count;
+}
+
+static void run(const char *name, const uint8_t *job, size_t n, const twin_device_settings *d,
+                const twin_central_settings *c, const uint32_t *pagers, size_t pager_count, uint8_t *journal,
+                size_t size, size_t length, const uint8_t *faults, size_t fault_count, uint8_t *verdicts,
+                size_t verdict_count) {
+#ifdef PRODUCT
+    tyntolai_device_settings device = side_device(d);
+    tyntolai_central_settings central = side_central(c);
+    MEASURED(name, tyntolai_totals r = tyntolai_run(job, n, device, central, pagers, pager_count, journal, size,
+                                                    length, faults, fault_count, verdicts, verdict_count))
+#else
+    MEASURED(name, twin_totals r = twin_run(job, n, d, c, pagers, pager_count, journal, size, length, faults,
+                                            fault_count, verdicts, verdict_count))
+#endif
+    mix_answer(r.code, r.transmissions);
+    mix_number(r.journal);
+    mix(journal, size);
+    mix(verdicts, 64);
+    report(name, r.code, r.transmissions);
+    code = r.code;
+    count = r.journal;
+}
+
+// ---- what is worked on; made here, by neither side
+
+// A transaction of so many characters: 123, then A.
+static void make_transaction(uint8_t *t, size_t n) {
+    memset(t, 'A', n);
+    memcpy(t, "123\r", 4);
+    t[n - 1] = CR;
+}
+
+// One record more in a journal of this length; the new length.
+static size_t put_record(uint8_t *journal, size_t length, const uint8_t *info, size_t n) {
+    size_t end = length - 4, records = (size_t)journal[end] * 256 + journal[end + 1] + 1, bytes = end + n + 2;
+    memmove(journal + end, info, n);
+    uint8_t tail[6] = {(uint8_t)(n / 256), (uint8_t)n, (uint8_t)(records / 256), (uint8_t)records,
+                       (uint8_t)(bytes / 256), (uint8_t)bytes};
+    memcpy(journal + end + n, tail, 6);
+    return bytes + 4;
+}
+
+// So many records of so many characters; the length.
+static size_t make_journal(uint8_t *journal, size_t records, size_t n) {
+    uint8_t t[2000];
+    size_t length = 4;
+    memset(journal, 0, BUFFER);
+    for (size_t i = 0; i < records; i++) {
+        make_transaction(t, n);
+        length = put_record(journal, length, t, n);
+    }
+    return length;
+}
+
+static void set_parity(uint8_t *p, size_t n) {
+    for (size_t i = 0; i < n; i++) p[i] = (uint8_t)(__builtin_parity(p[i]) ? p[i] ^ 0x80 : p[i]);
+}
+
+// A block; its length.
+static size_t make_block(uint8_t *to, const uint8_t *info, size_t n, uint8_t ending) {
+    unsigned sum = 2u + ending;
+    to[0] = 2;
+    for (size_t i = 0; i < n; i++) sum += to[1 + i] = info[i];
+    to[n + 1] = ending;
+    to[n + 2] = (uint8_t)(0x30 + sum / 256 % 16);
+    to[n + 3] = (uint8_t)(0x30 + sum / 16 % 16);
+    to[n + 4] = (uint8_t)(0x30 + sum % 16);
+    to[n + 5] = CR;
+    return n + 6;
+}
+
+static const twin_device_settings device = {{"SECRET", 6}, 2};
+static const twin_central_settings central = {{"SECRET", 6}, 2000, 2};
+static uint32_t pagers[1000];
+static uint8_t journal[BUFFER], job[BUFFER], verdicts[64];
+
+// ---- the table
+
+static char title[128];
+
+#define TITLE(...) (snprintf(title, sizeof title, __VA_ARGS__), title)
+
+static void measure_characters(void) {
+    static uint8_t text[4096], line[4096];
+    static const size_t parities[] = {16, 256}, sums[] = {20, 252}, blocks[] = {20, 250}, whole[] = {30, 2000};
+    memset(text, 'A', sizeof text);
+    memcpy(line, text, sizeof line);
+    for (int i = 0; i < 2; i++) {
+        size_t n = parities[i];
+        set_parity(line, n);
+        ANSWERED(TITLE("parity set, %zu", n), SIDE(set_parity)(text, n, out, n), out, 300);
+        ANSWERED(TITLE("parity clear, %zu", n), SIDE(clear_parity)(line, n, out, n), out, 300);
+    }
+    for (int i = 0; i < 2; i++) NUMBERED(TITLE("checksum, %zu", sums[i]), SIDE(checksum)(text, sums[i]));
+    for (int i = 0; i < 2; i++) {
+        size_t n = blocks[i];
+        make_transaction(text, n);
+        ANSWERED(TITLE("block write, %zu", n), SIDE(write_block)(text, n, 3, out, n + 6), out, 300);
+        make_block(line, text, n, 3);
+        ANSWERED(TITLE("block read, %zu", n + 6), SIDE(read_block)(line, n + 6), out, 0);
+    }
+    for (int i = 0; i < 2; i++) {
+        size_t n = whole[i];
+        make_transaction(text, n);
+        ANSWERED(TITLE("segmentation, %zu", n), SIDE(write_segments)(text, n, out, sizeof out), out, sizeof out);
+    }
+}
+
+static const size_t sizes[][2] = {{0, 100}, {64, 20}, {16, 500}, {15, 1990}};
+
+static void measure_journal(void) {
+    uint8_t t[100];
+    make_transaction(t, 100);
+    for (int i = 0; i < 4; i++) {
+        size_t k = sizes[i][0], n = sizes[i][1], length = make_journal(journal, k, n);
+        ANSWERED(TITLE("journal check, %zu records of %zu", k, n), SIDE(check_journal)(journal, length), out, 0);
+        ANSWERED(TITLE("journal append of 100, to %zu records of %zu", k, n),
+                 SIDE(append)(journal, BUFFER, length, t, 100), journal, BUFFER);
+    }
+}
+
+static void measure_reply(const char *name, const char *text, size_t n) {
+    uint8_t line[256];
+    memcpy(line, text, n);
+    set_parity(line, n);
+    NUMBERED(name, SIDE(read_reply)(line, n));
+}
+
+static void measure_replies(void) {
+    char text[256];
+    measure_reply("reply read, CR ACK CR", "\r\x06\r", 3);
+    measure_reply("reply read, ID=", "ID=\r", 4);
+    measure_reply("reply read, acceptance", "\r\x06\r\x1B[p\r", 7);
+    memset(text, 'A', 250);
+    memcpy(text + 250, "\r\x06\r", 3);
+    measure_reply("reply read, 250 characters, then ACK", text, 253);
+}
+
+// A step of the central in a stage, with so much of a transaction unfinished, over a journal.
+static void measure_central(const char *what, uint8_t stage, size_t pending, const uint8_t *text, size_t n,
+                            size_t records, size_t length, size_t pager_count) {
+    static twin_central s;
+    static uint8_t t[2000];
+    uint8_t line[256];
+    central_start(&s, make_journal(journal, records, length));
+    s.stage = stage;
+    s.length = pending;
+    make_transaction(t, 2000);
+    memcpy(s.pending, t, pending);
+    memcpy(line, text, n);
+    set_parity(line, n);
+    central_step(TITLE("central step, %s, journal %zu x %zu, %zu pagers", what, records, length, pager_count), &s,
+                 &central, pagers + (1000 - pager_count), pager_count, journal, BUFFER, line, n, 7);
+}
+
+static void measure_centrals(void) {
+    uint8_t t[2000], small[256], inner[256], last[256];
+    make_transaction(t, 40);
+    size_t n = make_block(small, t, 40, 3);
+    make_transaction(t, 2000);
+    make_block(inner, t, 250, 0x1F);
+    make_block(last, t + 1750, 250, 3);
+    measure_central("CR", TWIN_IDLE, 0, (const uint8_t *)"\r", 1, 0, 100, 1);
+    measure_central("logon", TWIN_LOGON, 0, (const uint8_t *)"\x1BPG1SECRET\r", 11, 0, 100, 1);
+    measure_central("block of 40 stored", TWIN_BLOCK, 0, small, n, 0, 100, 1);
+    measure_central("block of 40 stored", TWIN_BLOCK, 0, small, n, 0, 100, 1000);
+    measure_central("block of 40 stored", TWIN_BLOCK, 0, small, n, 16, 500, 1);
+    measure_central("block of 40 stored", TWIN_BLOCK, 0, small, n, 15, 1990, 1);
+    measure_central("silence", TWIN_BLOCK, 0, small, 0, 15, 1990, 1);
+    measure_central("block of 250 goes on", TWIN_BLOCK, 0, inner, 256, 0, 100, 1);
+    measure_central("block of 250 goes on", TWIN_BLOCK, 0, inner, 256, 15, 1990, 1);
+    measure_central("last block of 2000 stored", TWIN_BLOCK, 1750, last, 256, 0, 100, 1);
+    measure_central("last block of 2000 stored", TWIN_BLOCK, 1750, last, 256, 15, 1990, 1);
+}
+
+// A step of the device in a step, at a transaction and block, over a job.
+static void measure_device(const char *what, twin_device s, const char *text, size_t n, size_t records,
+                           size_t length) {
+    uint8_t line[256];
+    twin_given given;
+    size_t m = make_journal(job, records, length);
+    memcpy(line, text, n);
+    set_parity(line, n);
+    device_step(TITLE("device step, %s, job %zu x %zu", what, records, length), 0, &s, &given, &device, job, m, line,
+                n, 256);
+}
+
+static void measure_devices(void) {
+    twin_device opening = {TWIN_OPENING, 0, 0, 1}, sending = {TWIN_SENDING, 0, 0, 1}, late = {TWIN_SENDING, 8, 7, 1};
+    measure_device("ID=", opening, "ID=\r", 4, 1, 40);
+    measure_device("ACK, next transaction", sending, "\r\x06\r", 3, 2, 40);
+    measure_device("ACK, next block", sending, "\r\x06\r", 3, 1, 2000);
+    measure_device("ACK, next block", (twin_device){TWIN_SENDING, 8, 0, 1}, "\r\x06\r", 3, 16, 500);
+    measure_device("ACK, next block", (twin_device){TWIN_SENDING, 8, 3, 1}, "\r\x06\r", 3, 16, 1998);
+    measure_device("ACK, next transaction", late, "\r\x06\r", 3, 16, 1998);
+    measure_device("NAK, again", late, "\r\x15\r", 3, 16, 1998);
+}
+
+static void measure_runs(void) {
+    static const size_t jobs[][2] = {{1, 40}, {4, 40}, {16, 40}, {64, 40}, {1, 1998}, {4, 1998}, {16, 1998}};
+    for (int i = 0; i < 7; i++) {
+        size_t k = jobs[i][0], n = jobs[i][1], m = make_journal(job, k, n);
+        memset(journal, 0, BUFFER);
+        memset(verdicts, 0, sizeof verdicts);
+        run(TITLE("run, job %zu x %zu, clean", k, n), job, m, &device, &central, pagers + 999, 1, journal, BUFFER, 4,
+            out, 0, verdicts, k);
+    }
+}
+
+// ---- random calls
+
+static uint64_t seed;
+
+static size_t below(size_t n) {
+    seed ^= seed << 13;
+    seed ^= seed >> 7;
+    seed ^= seed << 17;
+    return (size_t)(seed >> 11) % n;
+}
+
+static int rarely(void) { return below(12) == 0; }
+
+// Bytes of which all are textual, or now and then some not.
+static void any_text(uint8_t *p, size_t n) {
+    for (size_t i = 0; i < n; i++) p[i] = below(9) == 0 ? CR : (uint8_t)(0x20 + below(0x5F));
+    if (n > 0 && below(3) > 0) p[n - 1] = CR;
+    if (n > 0 && rarely()) p[below(n)] = (uint8_t)below(256);
+}
+
+static size_t any_length(size_t most) {
+    switch (below(6)) {
+    case 0: return below(8);
+    case 1: return most - below(4);
+    case 2: return most + below(3);
+    default: return below(most);
+    }
+}
+
+// A transaction that the central may admit, or anything.
+static size_t any_transaction(uint8_t *t, size_t most) {
+    static const char *numbers[] = {"123", "9", "00000123", "000000123", "99999999", "", "12A"};
+    size_t n;
+    if (below(3) == 0) {
+        n = any_length(most);
+        any_text(t, n);
+        return n;
+    }
+    const char *number = numbers[below(8) < 4 ? 0 : below(7)];
+    n = strlen(number);
+    memcpy(t, number, n);
+    t[n++] = CR;
+    size_t rest = below(5) == 0 ? below(most - 20) : below(300) % (most - 20);
+    for (size_t i = 0; i < rest; i++) t[n++] = (uint8_t)(0x20 + below(0x5F));
+    if (!rarely()) t[n++] = CR;
+    return n;
+}
+
+// A journal, well formed or nearly; its length.
+static size_t any_journal(uint8_t *to, size_t most_records, size_t most) {
+    uint8_t t[2200];
+    size_t records = below(most_records + 1), length = 4;
+    memset(to, 0, BUFFER);
+    for (size_t i = 0; i < records; i++) {
+        size_t n = any_transaction(t, most);
+        if (n < 1 || n > 2000 || length + n > 31000) continue;
+        for (size_t k = 0; k < n; k++)
+            if (t[k] != CR && (t[k] < 0x20 || t[k] > 0x7E)) t[k] = 'x';
+        t[n - 1] = CR;
+        length = put_record(to, length, t, n);
+    }
+    if (rarely()) to[below(length)] ^= (uint8_t)(1 << below(8));
+    if (rarely()) length += below(3);
+    if (rarely() && length > 0) length -= 1;
+    if (rarely() && rarely()) length = below(40000);
+    return length > BUFFER ? BUFFER + 1 : length;
+}
+
+static size_t any_reply(uint8_t *to) {
+    static const char *pieces[] = {"\r", "\n", "\x06", "\x15", "\x1E", "\x1B\x04", "\x1B[p", "ID=", " ", "OK", "\r\n", "\r\x06\r", "\r\x15\r", "\r\x1E\r", "\r\x1B\x04\r", "\r\x06\r\x1B[p\r", "ID=\r"};
+    size_t n = 0;
+    if (below(2)) {
+        const char *s = pieces[11 + below(6)];
+        n = strlen(s);
+        memcpy(to, s, n);
+    } else {
+        for (size_t k = below(8); k > 0; k--) {
+            const char *s = pieces[below(17)];
+            memcpy(to + n, s, strlen(s));
+            n += strlen(s);
+        }
+        if (rarely()) while (n < 254 + below(5)) to[n++] = below(20) ? 'a' : CR;
+    }
+    set_parity(to, n);
+    if (n > 0 && rarely()) to[below(n)] ^= (uint8_t)(1 << below(8));
+    return n;
+}
+
+static twin_password any_password(void) {
+    twin_password p = {"SECRET", 6};
+    if (rarely()) p.length = below(8);
+    if (rarely()) p.characters[below(6)] = (uint8_t)below(128);
+    return p;
+}
+
+static twin_device_settings any_device_settings(void) {
+    return (twin_device_settings){any_password(), rarely() ? below(12) : below(4)};
+}
+
+static twin_central_settings any_central_settings(void) {
+    return (twin_central_settings){any_password(), below(3) ? 2000 : below(2003), rarely() ? below(12) : below(4)};
+}
+
+static size_t any_pagers(void) {
+    if (rarely()) pagers[below(2)] = 99999999 + (uint32_t)below(2);
+    else { pagers[0] = 123; pagers[1] = (uint32_t)below(100); }
+    return rarely() ? 1001 * (below(3) == 0) : 1 + below(2);
+}
+
+static size_t any_room(size_t needed) { return needed > 0 && rarely() ? needed - 1 : needed + below(3); }
+
+static size_t any_string(uint8_t *to) {
+    uint8_t t[2200];
+    size_t n = 0, m;
+    switch (below(8)) {
+    case 0: to[n++] = CR; break;
+    case 1: memcpy(to, "\x1BPG1SECRET\r", n = 11); break;
+    case 2: to[n++] = 4; to[n++] = CR; break;
+    case 3: any_text(to, n = below(300)); break;
+    case 4: return 0;
+    default:
+        m = any_transaction(t, 251);
+        if (m > 250) m = 250;
+        if (below(3) == 0) m = below(m + 1);
+        n = make_block(to, t, m, below(2) || m == 0 ? 3 : t[m - 1] == CR ? 0x17 : 0x1F);
+    }
+    set_parity(to, n);
+    if (rarely()) to[below(n + 1)] ^= (uint8_t)(1 << below(8));
+    if (n > 0 && rarely()) { // another character, of even parity
+        size_t i = below(n);
+        to[i] = (uint8_t)below(128);
+        set_parity(to + i, 1);
+    }
+    return n;
+}
+
+static uint64_t seen[10];
+
+static void summed(const char *name) {
+    printf("random %s: %016llx, codes", name, (unsigned long long)hash);
+    for (int i = 0; i < 10; i++) printf(" %llu", (unsigned long long)seen[i]);
+    printf("\n");
+    memset(seen, 0, sizeof seen);
+    hash = START;
+}
+
+static void random_characters(size_t calls) {
+    static uint8_t text[4096], line[4096];
+    for (size_t i = 0; i < calls; i++, seen[code]++) {
+        size_t n = any_length(256);
+        any_text(text, n);
+        ANSWERED(NULL, SIDE(set_parity)(text, n, out, any_room(n)), out, 300);
+    }
+    summed("parity set");
+    for (size_t i = 0; i < calls; i++, seen[code]++) {
+        size_t n = any_length(256);
+        any_text(line, n);
+        set_parity(line, n);
+        if (rarely()) line[below(n + 1)] ^= 0x80;
+        ANSWERED(NULL, SIDE(clear_parity)(line, n, out, any_room(n)), out, 300);
+    }
+    summed("parity clear");
+    for (size_t i = 0; i < calls; i++) {
+        size_t n = any_length(300);
+        for (size_t k = 0; k < n; k++) text[k] = (uint8_t)below(256);
+        NUMBERED(NULL, SIDE(checksum)(text, n));
+    }
+    summed("checksum");
+    for (size_t i = 0; i < calls; i++, seen[code]++) {
+        static const uint8_t endings[] = {3, 0x17, 0x1F, 3, 0x17, 0x1F, 0x1E};
+        size_t n = any_length(250);
+        uint8_t ending = endings[below(7)];
+        any_text(text, n);
+        ANSWERED(NULL, SIDE(write_block)(text, n, ending, out, any_room(n + 6)), out, 300);
+    }
+    summed("block write");
+    for (size_t i = 0; i < calls; i++, seen[code]++) {
+        size_t n = any_length(250);
+        any_text(text, n);
+        n = make_block(line, text, n, below(20) == 0 ? 0x1E : below(3) ? 3 : below(2) ? 0x17 : 0x1F);
+        if (rarely()) line[below(n)] ^= (uint8_t)(1 << below(8));
+        if (rarely()) n -= below(n + 1);
+        ANSWERED(NULL, SIDE(read_block)(line, n), out, 0);
+    }
+    summed("block read");
+    for (size_t i = 0; i < calls; i++, seen[code]++) {
+        size_t n = any_transaction(text, 2000), room = n + 6 * ((n + 249) / 250);
+        ANSWERED(NULL, SIDE(write_segments)(text, n, out, any_room(room)), out, sizeof out);
+    }
+    summed("segmentation");
+}
+
+static void random_journals(size_t calls) {
+    static uint8_t text[4096];
+    for (size_t i = 0; i < calls; i++, seen[code]++) {
+        size_t n = any_journal(journal, below(2) ? 4 : 70, below(2) ? 60 : 2000);
+        ANSWERED(NULL, SIDE(check_journal)(journal, n > BUFFER ? BUFFER : n), out, 0);
+    }
+    summed("journal check");
+    for (size_t i = 0; i < calls; i++, seen[code]++) {
+        size_t n = any_journal(journal, below(2) ? 4 : 70, below(2) ? 60 : 2000), m = any_transaction(text, 2000);
+        size_t size = rarely() ? BUFFER - 1 : BUFFER;
+        ANSWERED(NULL, SIDE(append)(journal, size, n, text, m), journal, BUFFER);
+    }
+    summed("journal append");
+    for (size_t i = 0; i < calls; i++) {
+        size_t n = any_reply(text);
+        NUMBERED(NULL, SIDE(read_reply)(text, n));
+    }
+    summed("reply read");
+}
+
+static void random_centrals(size_t calls) {
+    static twin_central s;
+    uint8_t string[512];
+    for (size_t i = 0; i < calls; i++, seen[code]++) {
+        twin_central_settings t = any_central_settings();
+        if (i % 8 == 0 || code != 0) {
+            central_start(&s, any_journal(journal, below(2) ? 4 : 66, below(2) ? 60 : 2000));
+            s.stage = (uint8_t)(rarely() ? below(5) : below(3) ? TWIN_BLOCK : below(4));
+            s.failures = below(2) ? 0 : below(4);
+            s.length = s.stage != TWIN_BLOCK && below(4) ? 0 : below(3) ? below(200) : below(2002);
+            any_text(s.pending, s.length > 2000 ? 2000 : s.length);
+        }
+        size_t pager_count = any_pagers(), size = rarely() && rarely() ? BUFFER - 1 : BUFFER;
+        size_t n = any_string(string), room = any_room(7);
+        central_step(NULL, &s, &t, pagers, pager_count, journal, size, string, n, room);
+    }
+    summed("central step");
+    for (size_t i = 0; i < calls; i++, seen[code]++) {
+        twin_central_settings t = any_central_settings();
+        s.stage = (uint8_t)below(5);
+        s.failures = below(2) ? 0 : below(4);
+        s.length = below(2) ? 0 : below(200);
+        any_text(s.pending, s.length);
+        central_hang_up(&s, &t);
+    }
+    summed("central hang up");
+}
+
+static void random_devices(size_t calls) {
+    uint8_t reply[512];
+    twin_device s = {0, 0, 0, 0};
+    twin_given given;
+    size_t n = 0;
+    for (size_t i = 0; i < calls; i++, seen[code]++) {
+        twin_device_settings t = any_device_settings();
+        if (i % 4 == 0 || code != 0) {
+            n = any_journal(job, below(2) ? 4 : 66, below(2) ? 60 : 2000);
+            if (n > BUFFER) n = BUFFER;
+            s = (twin_device){(uint8_t)(below(3) ? TWIN_SENDING : below(6)), below(3), below(3), below(4)};
+            if (s.step != TWIN_SENDING && below(4)) s.transaction = s.block = 0;
+        }
+        int starts = rarely();
+        size_t m = any_reply(reply), room = any_room(256);
+        device_step(NULL, starts, &s, &given, &t, job, n, reply, m, room);
+    }
+    summed("device step");
+}
+
+static void random_runs(size_t calls) {
+    uint8_t faults[64];
+    for (size_t i = 0; i < calls; i++, seen[code]++) {
+        twin_device_settings d = any_device_settings();
+        twin_central_settings c = any_central_settings();
+        size_t n = any_journal(job, below(2) ? 4 : 20, below(2) ? 60 : 2000), fault_count = below(64);
+        size_t length = any_journal(journal, below(2) ? 4 : 66, below(2) ? 60 : 2000), pager_count = any_pagers();
+        for (size_t k = 0; k < fault_count; k++) faults[k] = (uint8_t)(below(6) ? 0 : below(9));
+        if (fault_count > 0 && rarely()) faults[below(fault_count)] = 9;
+        if (n > BUFFER) n = BUFFER;
+        size_t k = n < 4 ? 0 : job[n - 3];
+        memset(verdicts, 0, sizeof verdicts);
+        run(NULL, job, n, &d, &c, pagers, pager_count, journal, BUFFER, length, faults, fault_count, verdicts,
+            k > 64 ? 64 : rarely() ? (k + 1) % 64 : k);
+    }
+    summed("run");
+}
+
+int main(int words, char **word) {
+    for (size_t i = 0; i < 1000; i++) pagers[i] = (uint32_t)(99999 - i);
+    pagers[999] = 123;
+    if (words == 3) {
+        size_t calls = strtoul(word[2], NULL, 10);
+        seed = strtoul(word[1], NULL, 10) * 2 + 1;
+        random_characters(calls);
+        random_journals(calls);
+        random_centrals(calls);
+        random_devices(calls);
+        random_runs(calls / 10);
+        return 0;
+    }
+    measure_characters();
+    measure_journal();
+    measure_replies();
+    measure_centrals();
+    measure_devices();
+    measure_runs();
+    return 0;
+}

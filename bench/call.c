@@ -1,0 +1,72 @@
+// The worked example for hosts: a whole call of both ends through the header, string by string, as
+// document 01's last numbers have it: pager list 123, job 123/ABC then 9/X, clean line; verdicts 1, 2.
+#include "../include/tyntolai.h"
+#include <stdio.h>
+#include <string.h>
+
+static void print(const char *who, const uint8_t *bytes, size_t n) {
+    printf("%s", who);
+    for (size_t i = 0; i < n; i++) printf(" %02X", bytes[i]);
+    printf("\n");
+}
+
+static int wrong(const char *what) {
+    printf("wrong: %s\n", what);
+    return 1;
+}
+
+int main(void) {
+    static uint8_t job[TYNTOLAI_BUFFER], journal[TYNTOLAI_BUFFER]; // empty journals: four zeros
+    static const uint8_t stored[14] = {0x31, 0x32, 0x33, 0x0D, 0x41, 0x42, 0x43, 0x0D, 0, 8, 0, 1, 0, 10};
+    const uint32_t pagers[1] = {123};
+    const tyntolai_device_settings device_settings = {{"SECRET", 6}, 2};
+    const tyntolai_central_settings central_settings = {{"SECRET", 6}, 2000, 2};
+    uint8_t string[TYNTOLAI_STRING], answer[TYNTOLAI_ANSWER];
+    uint8_t verdicts[2] = {TYNTOLAI_UNSENT, TYNTOLAI_UNSENT};
+    size_t transmissions = 0;
+
+    // The job is a journal of its own.
+    tyntolai_answer length = tyntolai_append(job, sizeof job, 4, (const uint8_t *)"123\rABC\r", 8);
+    if (length.code == 0) length = tyntolai_append(job, sizeof job, length.count, (const uint8_t *)"9\rX\r", 4);
+    if (length.code != 0) return wrong("the job");
+
+    // The device puts out a string, the central answers, the device reads the answer, until it stops.
+    tyntolai_central_state central = tyntolai_central_start(4);
+    tyntolai_device_stepped device =
+        tyntolai_device_start(device_settings, job, length.count, string, sizeof string);
+    if (device.answer.code != 0) return wrong("the device's start");
+    while (device.answer.count > 0) {
+        print("device ", string, device.answer.count);
+        transmissions++;
+        tyntolai_central_stepped heard =
+            tyntolai_central_step(central, central_settings, pagers, 1, journal, sizeof journal, string,
+                                  device.answer.count, answer, sizeof answer);
+        if (heard.answer.code != 0) return wrong("a step of the central");
+        central = heard.state;
+        print("central", answer, heard.answer.count);
+        device = tyntolai_device_step(device.state, device_settings, job, length.count, answer,
+                                      heard.answer.count, string, sizeof string);
+        if (device.answer.code != 0) return wrong("a step of the device");
+        if (device.verdict != 0) verdicts[device.transaction] = device.verdict;
+    }
+    print("verdicts", verdicts, sizeof verdicts);
+    print("journal", journal, central.journal);
+    if (verdicts[0] != TYNTOLAI_ACCEPTED || verdicts[1] != TYNTOLAI_REJECTED) return wrong("the verdicts");
+    if (central.journal != sizeof stored || memcmp(journal, stored, sizeof stored) != 0) return wrong("the journal");
+    if (device.state.step != TYNTOLAI_STOPPED || device.report != 1 + TYNTOLAI_EOT) return wrong("the close");
+
+    // The line is dropped, and the central waits for the next call.
+    if (tyntolai_central_hang_up(central, central_settings).state.stage != TYNTOLAI_IDLE) return wrong("hanging up");
+
+    // The same by the run of both ends in one call.
+    static uint8_t again[TYNTOLAI_BUFFER];
+    uint8_t given[2];
+    tyntolai_totals totals = tyntolai_run(job, length.count, device_settings, central_settings, pagers, 1, again,
+                                          sizeof again, 4, string, 0, given, sizeof given);
+    if (totals.code != 0 || totals.transmissions != transmissions || totals.journal != central.journal ||
+        memcmp(again, journal, sizeof again) != 0 || memcmp(given, verdicts, sizeof given) != 0) {
+        return wrong("the run");
+    }
+    printf("%zu transmissions: as it should be\n", transmissions);
+    return 0;
+}

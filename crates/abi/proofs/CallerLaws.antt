@@ -1,0 +1,90 @@
+-- What the steps owe, in numbers: a step that is done gives its own record, one that is refused leaves the caller's.
+use mathlib.Core.List.{List}
+use mathlib.Core.Path.{_≡_, refl, ap, _∙_}
+use Prim.Native.Nat.{ℕ, _<_}
+use native.Mathlib.Omega.{arith}
+use lib.ListN.{length}
+use Rattle.line.proofs.OverlayLaws.{overlay-none}
+use Rattle.line.specs.Answer.{Outcome, done, refused, mapDone, writtenAs}
+use Rattle.journal.specs.Storage.{storedIn}
+use Rattle.central.specs.Reaction.{Reaction, answerBytes}
+use Rattle.central.specs.Step as CentralStep
+use Rattle.central.specs.Step.{stateBehind}
+use Rattle.central.specs.declared.state.State as Central
+use Rattle.central.specs.declared.state.Stepped as Stepped
+use Rattle.device.specs.Step as DeviceStep
+use Rattle.device.specs.Step.{Sent, moveOf}
+use Rattle.device.specs.declared.state.Step.{Step}
+use Rattle.device.specs.declared.state.Stepped as Device
+use Rattle.call.specs.Call.{Played, Runs, ranAs}
+use Rattle.call.specs.declared.run.Ran.{Ran}
+use Rattle.reply.specs.declared.Meaning.the-variants.{IdRequest, Acceptance, Ack, Nak, Rs, Eot}
+use Rattle.reply.specs.declared.Reply.{Reply}
+use Rattle.reply.specs.declared.Reply.the-variants.{Recognized, Unrecognized}
+use Rattle.abi.specs.Centrals as Centrals
+use Rattle.abi.specs.Devices as Devices
+use Rattle.abi.specs.Replies.{replyNumber}
+use Rattle.abi.specs.Run.{CallRuns, totalsIn}
+use Rattle.abi.specs.declared.centrals.CentralState.{CentralState}
+use Rattle.abi.specs.declared.centrals.CentralStepped.{CentralStepped}
+use Rattle.abi.specs.declared.devices.DeviceState.{DeviceState}
+use Rattle.abi.specs.declared.devices.DeviceStepped.{DeviceStepped}
+use Rattle.abi.specs.declared.run.RunTotals.{RunTotals}
+
+-- of a step of the central
+pub central-packed : (s : CentralState) (o : Outcome (Reaction (List (List ℕ)))) {w : Outcome ℕ} {t : Central.State} →
+    w ≡ mapDone (λ x. length (answerBytes (x .answer))) o → t ≡ stateBehind (Centrals.stateOf s) o → Centrals.packed s w t ≡ Centrals.centralAnswer s o
+central-packed s (done x) counted behind = rw (counted, behind) refl
+central-packed s (refused n) counted behind = rw counted refl
+
+-- so what a step owes is owed to a C caller
+pub central-steps : (o : Outcome (Reaction (List (List ℕ)))) {s : CentralState} {t : Stepped.Stepped} {r : CentralStepped} {buffer buffer′ out out′ : List ℕ} →
+    CentralStep.Steps o (Centrals.stateOf s) t buffer buffer′ out out′ → r ≡ Centrals.packed s (writtenAs (t .outcome)) (t .state) →
+    Centrals.CentralSteps o s r buffer buffer′ out out′
+central-steps o {s = s} k e =
+    record { answers = e ∙ central-packed s o (k .answers) (k .state); stored = k .stored; leaves = k .leaves }
+
+-- and a refusal leaves all
+pub central-refused : {n : ℕ} {s : CentralState} {r : CentralStepped} (buffer out : List ℕ) → r ≡ Centrals.refusing s n →
+    Centrals.CentralSteps (refused n) s r buffer buffer out out
+unfolding storedIn
+central-refused buffer out e = record { answers = e; stored = refl; leaves = overlay-none out }
+
+-- where the line was dropped
+pub central-drops : (o : Outcome Central.State) (s : CentralState) {t : Stepped.Stepped} {r : CentralStepped} →
+    CentralStep.Drops o (Centrals.stateOf s) t → r ≡ Centrals.packed s (writtenAs (t .outcome)) (t .state) → r ≡ Centrals.dropAnswer s o
+central-drops (done x) s k e = e ∙ rw (k .answers, k .state) refl
+central-drops (refused n) s k e = e ∙ rw (k .answers) refl
+
+-- of a step of the device
+pub device-packed : (s : DeviceState) (o : Outcome Sent) (step : Step) {w : Outcome ℕ} (t : Device.Stepped) →
+    w ≡ mapDone (λ x. length (x .string)) o → t .state .step ≡ moveOf step o .next → t .given ≡ moveOf step o .given → t .report ≡ moveOf step o .report →
+    Devices.packed s w t ≡ Devices.deviceAnswer s o
+device-packed s (done x) step t counted next given report = rw (counted, next, given, report) refl
+device-packed s (refused n) step t counted next given report = rw counted refl
+
+-- so what a step owes is owed to a C caller
+pub device-steps : (o : Outcome Sent) (step : Step) {s : DeviceState} {t : Device.Stepped} {r : DeviceStepped} {out out′ : List ℕ} →
+    DeviceStep.Steps o step t out out′ → r ≡ Devices.packed s (writtenAs (t .outcome)) t → Devices.DeviceSteps o s r out out′
+device-steps o step {s = s} {t = t} k e =
+    record { answers = e ∙ device-packed s o step t (k .answers) (k .state) (k .gave) (k .reports); leaves = k .leaves }
+
+-- and a refusal leaves all
+pub device-refused : {n : ℕ} {s : DeviceState} {r : DeviceStepped} (out : List ℕ) → r ≡ Devices.refusing s n → Devices.DeviceSteps (refused n) s r out out
+device-refused out e = record { answers = e; leaves = overlay-none out }
+
+-- what a run owes is owed to a C caller
+pub runs : {o : Outcome Played} {t : Ran} {r : RunTotals} {buffer buffer′ verdicts verdicts′ : List ℕ} →
+    Runs o t buffer buffer′ verdicts verdicts′ → r ≡ totalsIn (ranAs t) → CallRuns o r buffer buffer′ verdicts verdicts′
+runs k e =
+    record { answers = e ∙ ap totalsIn (k .answers); stored = k .stored; judged = k .judged; fair = k .fair; demand = k .demand }
+
+-- the numbers of replies are small
+pub reply-small : (r : Reply) → replyNumber r < 7
+reply-small (Recognized IdRequest) = omega arith
+reply-small (Recognized Acceptance) = omega arith
+reply-small (Recognized Ack) = omega arith
+reply-small (Recognized Nak) = omega arith
+reply-small (Recognized Rs) = omega arith
+reply-small (Recognized Eot) = omega arith
+reply-small Unrecognized = omega arith

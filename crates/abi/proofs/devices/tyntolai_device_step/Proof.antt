@@ -1,0 +1,46 @@
+-- `tyntolai_device_step` meets its contract: a record with no step is refused, else the step that it is goes on.
+use borrow.Author.Tests.{lt-ltb, le-ltb}
+use Rattle.abi.specs.Devices.{deviceStepped}
+use Rattle.abi.proofs.CallerLaws.{device-refused, device-steps}
+use borrow.Author.Needs.{needs}
+use Rattle.abi.proofs.devices.tyntolai_device_step.Statement.{statement}
+use Rattle.abi.proofs.devices.tyntolai_device_step.Tie as tie
+
+refuse-requires : tie.Need-refuse-requires
+refuse-requires c κs = search needs
+
+returns : tie.Need-returns
+unfolding deviceStepped
+returns c = rw (lt-ltb 4 _ (c .before .if1 .taken)) (device-refused _ (c .refuse .ensures))
+
+step-of-requires : tie.Need-step-of-requires
+step-of-requires c κs = search needs
+
+settings-of-requires : tie.Need-settings-of-requires
+settings-of-requires c κs = search needs
+
+step-requires : tie.Need-step-requires
+step-requires c κs = search needs
+
+pack-requires : tie.Need-pack-requires
+pack-requires c κs = search needs
+
+same-length : tie.Need-same-length
+same-length c = search needs
+
+returns-2 : tie.Need-returns-2
+unfolding deviceStepped
+returns-2 c = rw (le-ltb 4 _ (c .before .before .before .before .before .before .before .if1 .left)) (device-steps _ _ (rw (c .before .before .before .before .before .before .step-of .ensures, c .before .before .before .before .before .settings-of .ensures) at (c .before .before .before .step .ensures)) (c .pack .ensures))
+
+pub tyntolai-device-step-spec : {M : Type 1} → statement M
+tyntolai-device-step-spec =
+    tie.close
+    (tie.spec
+    refuse-requires
+    returns
+    step-of-requires
+    settings-of-requires
+    step-requires
+    pack-requires
+    same-length
+    returns-2)

@@ -1,0 +1,10 @@
+// The public functions under C names, as include/tyntolai.h declares them: numbers in the place of
+// enums, and states and settings as plain records.
+pub mod answer;
+pub mod centrals;
+pub mod devices;
+pub mod journals;
+pub mod password;
+pub mod replies;
+pub mod run;
+pub mod text;

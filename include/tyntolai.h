@@ -1,0 +1,202 @@
+// Tyntolai: a TAP pager link. The functions of the static library libabi.a (rt staticlib abi).
+//
+// Every call is settled for every input. `code` is 0 where it is done, or the number of the refusal;
+// a refusal has count 0 and leaves all memory and every state as it was:
+//   1 an output or work buffer has the wrong size or is short   6 a character of the information, or its ending
+//   2 a length outside the limits                               7 journal or job not well formed
+//   3 a byte of odd parity, or of 80 hex or more                8 the journal lacks room
+//   4 frame: STX, ending, check characters' range, CR           9 a setting, list, fault or state out of range
+//   5 the checksum
+// A pointer is followed by the length of what it points to. It is never null, even where the length
+// is 0, and what is written overlaps nothing else of the call. Bytes behind an answer stay.
+#ifndef TYNTOLAI_H
+#define TYNTOLAI_H
+
+#include <stddef.h>
+#include <stdint.h>
+
+#ifdef __cplusplus
+extern "C" {
+#endif
+
+enum {
+    TYNTOLAI_STRING = 256,   // room for any string of the device
+    TYNTOLAI_ANSWER = 7,     // room for any answer of the central
+    TYNTOLAI_PENDING = 2000, // the central's unfinished information
+    TYNTOLAI_BUFFER = 32004  // the size of a journal's buffer, exactly
+};
+
+// What a call comes to.
+typedef struct {
+    size_t count;
+    uint8_t code;
+} tyntolai_answer;
+
+// 0 to 6 letters and digits.
+typedef struct {
+    uint8_t characters[6];
+    size_t length;
+} tyntolai_password;
+
+// ---- Characters and blocks
+
+// Characters below 80 hex to the line: each with bit 7 set so that its ones are even. Refusals 1, 3.
+tyntolai_answer tyntolai_set_parity(const uint8_t *text, size_t text_length, uint8_t *out, size_t room);
+
+// Bytes of the line to characters, each tested for even parity. Refusals 1, 3.
+tyntolai_answer tyntolai_clear_parity(const uint8_t *line, size_t line_length, uint8_t *out, size_t room);
+
+// The sum of the 7-bit values, modulo 4,096.
+uint16_t tyntolai_checksum(const uint8_t *text, size_t text_length);
+
+// A block of at most 250 characters of information with an ending, 03, 17 or 1F hex (ETX, ETB, US):
+// six characters more. Parity is off. Refusals 9 (ending), 1, 2, 3, 6.
+tyntolai_answer tyntolai_write_block(const uint8_t *info, size_t info_length, uint8_t ending, uint8_t *out,
+                                     size_t room);
+
+// Reads a block, its parity taken off: count is the length of the information, which lies at text + 1,
+// its ending behind it. Refusals 2, 3, 4, 5, 6.
+tyntolai_answer tyntolai_read_block(const uint8_t *text, size_t text_length);
+
+// All blocks of a transaction of 1 to 2,000 characters, one after the other. Refusals 1, 2, 3, 6.
+tyntolai_answer tyntolai_write_segments(const uint8_t *info, size_t info_length, uint8_t *out, size_t room);
+
+// ---- The journal; a job is one too. An empty one is four zeros.
+
+// A journal lent at its exact length: count is its records. Refusal 7.
+tyntolai_answer tyntolai_check_journal(const uint8_t *journal, size_t journal_length);
+
+// One transaction more in the journal of this length at the start of a buffer of TYNTOLAI_BUFFER bytes:
+// count is the journal's new length. Refusals 1, 7, 2, 3, 6, 8.
+tyntolai_answer tyntolai_append(uint8_t *buffer, size_t size, size_t journal_length, const uint8_t *info,
+                                size_t info_length);
+
+// ---- Replies
+
+enum {
+    TYNTOLAI_UNRECOGNIZED = 0,
+    TYNTOLAI_ID_REQUEST = 1,
+    TYNTOLAI_ACCEPTANCE = 2,
+    TYNTOLAI_ACK = 3,
+    TYNTOLAI_NAK = 4,
+    TYNTOLAI_RS = 5,
+    TYNTOLAI_EOT = 6
+};
+
+// What the bytes of a reply mean, as they came off the line: one of the above.
+uint8_t tyntolai_read_reply(const uint8_t *bytes, size_t byte_count);
+
+// ---- The central
+
+// The longest transaction is 3 to 2,000 characters, the retry limit 0 to 9.
+typedef struct {
+    tyntolai_password password;
+    size_t longest;
+    size_t retries;
+} tyntolai_central_settings;
+
+enum { TYNTOLAI_IDLE = 0, TYNTOLAI_LOGON = 1, TYNTOLAI_BLOCK = 2, TYNTOLAI_CLOSED = 3 };
+
+// The central between two strings: its stage, the failures in a row, the unfinished information at the
+// start of its array and its length, and the length of the journal.
+typedef struct {
+    uint8_t stage;
+    size_t failures;
+    uint8_t pending[TYNTOLAI_PENDING];
+    size_t length;
+    size_t journal;
+} tyntolai_central_state;
+
+typedef struct {
+    tyntolai_answer answer;
+    tyntolai_central_state state;
+} tyntolai_central_stepped;
+
+// The state before the first call, over a journal of this length.
+tyntolai_central_state tyntolai_central_start(size_t journal_length);
+
+// A string as it came off the line, of no bytes where nothing came: count bytes of answer go to out
+// (TYNTOLAI_ANSWER or more). At most 1,000 pager numbers below 100,000,000. Refusals 9, 1, 7.
+tyntolai_central_stepped tyntolai_central_step(tyntolai_central_state state, tyntolai_central_settings settings,
+                                               const uint32_t *pagers, size_t pager_count, uint8_t *journal,
+                                               size_t size, const uint8_t *string, size_t string_length,
+                                               uint8_t *out, size_t room);
+
+// The line was dropped: the central waits for the next call. Refusal 9.
+tyntolai_central_stepped tyntolai_central_hang_up(tyntolai_central_state state, tyntolai_central_settings settings);
+
+// ---- The entry device
+
+// The retry limit is 0 to 9.
+typedef struct {
+    tyntolai_password password;
+    size_t retries;
+} tyntolai_device_settings;
+
+enum {
+    TYNTOLAI_STOPPED = 0,
+    TYNTOLAI_OPENING = 1,
+    TYNTOLAI_LOGGING_ON = 2,
+    TYNTOLAI_SENDING = 3,
+    TYNTOLAI_CLOSING = 4
+};
+
+// The device between two replies: the step it waits in; the transaction and block that it sends, from 0
+// (0 outside Sending); how often the string was sent.
+typedef struct {
+    uint8_t step;
+    size_t transaction;
+    size_t block;
+    size_t attempts;
+} tyntolai_device_state;
+
+enum {
+    TYNTOLAI_ACCEPTED = 1,
+    TYNTOLAI_REJECTED = 2,
+    TYNTOLAI_UNCONFIRMED = 3,
+    TYNTOLAI_DEFERRED = 4,
+    TYNTOLAI_UNSENT = 5
+};
+
+// The verdict that a step gives (0: none) and on which transaction; and the reply to the close
+// (0: none came, else 1 plus its number).
+typedef struct {
+    tyntolai_answer answer;
+    tyntolai_device_state state;
+    uint8_t verdict;
+    size_t transaction;
+    uint8_t report;
+} tyntolai_device_stepped;
+
+// The start of a call for a job lent at its exact length: count bytes of the first string go to out
+// (TYNTOLAI_STRING or more). Refusals 9, 1, 7.
+tyntolai_device_stepped tyntolai_device_start(tyntolai_device_settings settings, const uint8_t *job,
+                                              size_t job_length, uint8_t *out, size_t room);
+
+// A reply as it came off the line, of no bytes where nothing came: count bytes of the next string go to
+// out, none once the device has stopped. Refusals 9, 1, 7, 9 (transaction and block).
+tyntolai_device_stepped tyntolai_device_step(tyntolai_device_state state, tyntolai_device_settings settings,
+                                             const uint8_t *job, size_t job_length, const uint8_t *reply,
+                                             size_t reply_length, uint8_t *out, size_t room);
+
+// ---- A whole call
+
+// The strings that the device put out, and the journal's new length.
+typedef struct {
+    size_t transmissions;
+    size_t journal;
+    uint8_t code;
+} tyntolai_totals;
+
+// Runs a job against the central. A fault for each transmission, 0 to 8: 3 times what becomes of the
+// string plus what becomes of its answer (0 whole, 1 garbled, 2 lost); past the list all is whole. One
+// byte of verdict for each transaction. Refusals 9, 1, 7, 1 (verdicts).
+tyntolai_totals tyntolai_run(const uint8_t *job, size_t job_length, tyntolai_device_settings device,
+                             tyntolai_central_settings central, const uint32_t *pagers, size_t pager_count,
+                             uint8_t *journal, size_t size, size_t journal_length, const uint8_t *faults,
+                             size_t fault_count, uint8_t *verdicts, size_t verdict_count);
+
+#ifdef __cplusplus
+}
+#endif
+#endif
