@@ -2,8 +2,9 @@
 """Writes crates/vectors/stdin and stdout: calls, and what document 01 says comes of each; and the same of the lines that crates/blocks reads.
 
 The answers come from a model of document 01 that is written here in Python, from the paper and not from the Rattle sources, and from the
-numbers that the paper prints, which are asserted below, as demand 3 is of every run. The program `vectors` makes the calls on the proved functions; the
-gate compares.
+numbers that the paper prints, which are asserted below, as demand 3 is of every run. Three parts are younger, and by people who knew the Rattle sources:
+the walk of a journal, single steps from saved states, and that hanging up tests no pager list (a decision, which the model followed). Of those it is a
+second writing and no second opinion. The program `vectors` makes the calls on the proved functions; the gate compares.
 
 A line of stdin is a call: a letter, then arguments with a space before each. Bytes are hex pairs; `*` and four hex digits behind a pair repeat it;
 no bytes are `-`. A number is bytes too, high first.
