@@ -159,7 +159,7 @@ enum {
 };
 
 // The verdict that a step gives (0: none) and on which transaction; and the reply to the close
-// (0: none came, else 1 plus its number).
+// (0: this step reports none; else 1 plus its number, so that silence and what is not recognized are 1).
 typedef struct {
     tyntolai_answer answer;
     tyntolai_device_state state;

@@ -66,7 +66,7 @@ abbrev pub transactionIn : Given → ℕ
 transactionIn (Giving.Verdict t v) = t
 transactionIn Giving.Nothing = 0
 
--- the reply to the close: 0 where none came
+-- the reply to the close: 0 where a step reports none; silence is a reply that is not recognized, so 1
 abbrev pub reportNumber : Report → ℕ
 reportNumber (Reporting.Close r) = 1 + replyNumber r
 reportNumber Reporting.Nothing = 0

@@ -42,7 +42,7 @@ pub struct DeviceState {
 }
 
 // The verdict that a step gives, 0 where it gives none, and on which transaction; and the reply to the
-// close, 0 where none came, else 1 plus its number.
+// close: 0 where this step reports none, else 1 plus its number; silence is a reply not recognized, so 1.
 #[repr(C)]
 pub struct DeviceStepped {
     pub answer: Answer,
