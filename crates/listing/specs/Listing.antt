@@ -1,16 +1,19 @@
 -- What the program `blocks` prints for one line of its input (document 01, "Numbers to hold it to").
-use mathlib.Core.Bool.{Bool, not, _&&_}
+use mathlib.Core.Bool.{Bool, true, false, not, _&&_}
 use mathlib.Core.List.{List, [], _∷_, _++_, flatMap}
-use Prim.Native.Nat.{ℕ, _+_}
+use mathlib.Core.Path.{_≡_}
+use Prim.Native.Nat.{ℕ, _+_, _<_, _≤_}
 use lib.Dec.{eqb, ltb}
-use lib.ListN.{length, take, drop}
+use lib.ListN.{length, take, drop, getD, set}
 use Rattle.line.specs.Answer.{Outcome, done, refused}
 use Rattle.line.specs.Character.{STX, ETX, ETB, US, CR, LF, seven, printable}
 use Rattle.line.specs.Test.{if_then_else_, all, before}
 use Rattle.line.specs.Text.{bytesOf}
 use Rattle.block.specs.Block.{Segment}
-use Rattle.block.specs.Segments.{segmentBlock}
-use Rattle.segmentation.specs.Segmentation.{segmentation}
+use Rattle.block.specs.Checksum.{checkCharacters}
+use Rattle.block.specs.Segments.{segment, segmentBlock}
+use Rattle.block.specs.declared.frame.Ending.the-variants.{Etx}
+use Rattle.segmentation.specs.Segmentation.{innerEnding, segmentation}
 
 -- a character as it is printed: the control characters of a block by their names (R-12.3)
 unfoldable pub shown : ℕ → List ℕ
@@ -21,20 +24,6 @@ shown c =
     else if eqb c US then bytesOf "<US>"
     else if eqb c CR then bytesOf "<CR>"
     else c ∷ []
-
--- where a character's name stands among the names as the writer has them, four characters of each; 20 where it has none
-unfoldable pub nameAt : ℕ → ℕ
-nameAt c =
-    if eqb c STX then 0
-    else if eqb c ETX then 4
-    else if eqb c ETB then 8
-    else if eqb c US then 12
-    else if eqb c CR then 16
-    else 20
-
--- the name that stands there: the first three have a fifth character
-unfoldable pub nameFrom : ℕ → List ℕ
-nameFrom n = take 4 (drop n (bytesOf "<STX<ETX<ETB<US><CR>")) ++ (if ltb n 12 then bytesOf ">" else [])
 
 -- characters on a line of their own
 abbrev pub printedLine : List ℕ → List ℕ
@@ -83,3 +72,26 @@ listing line = printedAs (checkedLine line) line
 -- The longest takes at most 5 bytes for each of 2,048 characters and 8 line ends
 unfoldable pub listed : List ℕ → ℕ → Outcome (List ℕ)
 listed line room = if ltb room 10248 then refused 1 else done (listing line)
+
+-- ── How it is printed from the line itself ──
+
+-- bytes are put behind the first `at` of the memory, and where they end
+pub record Added (at : ℕ) (xs : List ℕ) (end : ℕ) (memory memory′ : List ℕ) : Type 0 where
+  pub ends : end ≡ at + length xs
+  pub leaves : memory′ ≡ take at memory ++ (xs ++ drop (at + length xs) memory)
+
+-- characters of a line that a block holds, and the place of the line's first space among them, or one behind them
+pub record Cut (part : List ℕ) (space : ℕ) : Type 0 where
+  pub text : all printable part ≡ true
+  pub short : length part ≤ 250
+  pub near : space < 2000
+  pub right : space < length part → getD part space 0 ≡ 0x20
+
+-- the segment that they are: CR in the place of the space, and behind them where it is the last
+abbrev pub segmentOf : List ℕ → ℕ → Bool → Segment
+segmentOf part space true = segment (set part space CR ++ CR ∷ []) Etx
+segmentOf part space false = segment (set part space CR) (innerEnding (set part space CR))
+
+-- how the line of a block ends: check characters, CR and LF
+abbrev pub lineEnd : ℕ → List ℕ
+lineEnd sum = checkCharacters sum ++ (bytesOf "<CR>" ++ LF ∷ [])

@@ -1,31 +1,28 @@
 // What the program `blocks` prints for one line of its input.
+use block::checksum::checksum;
 use block::frame::INFORMATION;
 use line::Checked;
 use line::Refusal;
 use line::Written;
-use line::answer::count;
 use line::answer::number;
-use line::character::CR;
 use line::character::Class;
-use line::character::ETB;
-use line::character::ETX;
 use line::character::LF;
-use line::character::STX;
-use line::character::US;
 use line::character::are;
 use line::memory::copy;
 use line::memory::find;
-use segmentation::block_count;
-use segmentation::write_segments;
-ghost use mathlib.Core.List.{flatMap};
+ghost use mathlib.Core.Bool.{true};
+ghost use mathlib.Core.List.{_++_, flatMap};
 ghost use mathlib.Core.Path.{_≡_};
-ghost use Prim.Native.Nat.{_+_, _*_, _<_, _≤_};
-ghost use lib.ListN.{length, take, drop};
+ghost use Prim.Native.Nat.{_+_, _-_, _%_, _<_, _≤_, min};
+ghost use lib.Dec.{ltb};
+ghost use lib.ListN.{length, set};
 ghost use Rattle.line.specs.Answer.{Laid, Wrote, checkedAs, done, refusalNumber};
-ghost use Rattle.block.specs.Segments.{blocksOf};
-ghost use Rattle.segmentation.specs.Segmentation.{segmentation};
-ghost use Rattle.listing.specs.Listing.{checkedLine, fieldsOf, listed, listing, nameAt, nameFrom};
-ghost use Rattle.listing.specs.Listing.{printedBlocks, printedLine, printedRefusal, shown};
+ghost use Rattle.line.specs.Character.{CR, printable};
+ghost use Rattle.line.specs.Test.{if_then_else_, all};
+ghost use Rattle.block.specs.Checksum as Checksum;
+ghost use Rattle.segmentation.specs.Segmentation.{blockCount, segmentAt};
+ghost use Rattle.listing.specs.Listing.{Added, Cut, checkedLine, fieldsOf, lineEnd, listed};
+ghost use Rattle.listing.specs.Listing.{printedBlock, printedBlocks, printedRefusal, segmentOf, shown};
 
 // Room for what any line prints.
 pub const ROOM: usize = 10248;
@@ -33,11 +30,15 @@ pub const ROOM: usize = 10248;
 // The most characters of a line: a transaction's, less the CR at its end.
 const LINE: usize = 1999;
 
-// The characters of a full block.
-const BLOCK: usize = 256;
+// CR in the place of a space, in a sum modulo 4,096.
+const CR_FOR_SPACE: u16 = 4077;
 
-// The end of the names of the control characters that a block has: four characters of each.
-const NAMES: usize = 20;
+// The values of STX and of what stands behind the characters of the line: CR and ETX, ETB, or US.
+const STX_CR_ETX: u16 = 18;
+
+const STX_ETB: u16 = 25;
+
+const STX_US: u16 = 33;
 
 // The blocks of the transaction that a line is, cut at its first space into two fields, each block
 // printed on a line of its own; or the line `refused` with the number.
@@ -49,16 +50,9 @@ pub fn list(line: &[u8], out: &mut [u8]) -> Written
     if out.len() < ROOM {
         return Written::Refused(Refusal::Size);
     }
-    Written::Count(put_listing(line, out))
-}
-
-fn put_listing(line: &[u8], out: &mut [u8]) -> usize
-    requires { ⌜ 10248 ≤ length (now out) ⌝ }
-    ensures { λ r. ⌜ Laid (listing (now (line .entry))) r (now (out .entry)) (now (out .exit)) ⌝ }
-{
     match check(line) {
-        Checked::Refused(refusal) => put_refusal(refusal, out),
-        Checked::Count(space) => put_line(line, space, out),
+        Checked::Refused(refusal) => Written::Count(put_refusal(refusal, out)),
+        Checked::Count(space) => Written::Count(put_line(line, space, out)),
     }
 }
 
@@ -87,165 +81,140 @@ fn put_refusal(refusal: Refusal, out: &mut [u8]) -> usize
     requires { ⌜ 10 ≤ length (now out) ⌝ }
     ensures { λ r. ⌜ Laid (printedRefusal (refusalNumber refusal)) r (now (out .entry)) (now (out .exit)) ⌝ }
 {
-    let at = put_text(b"refused ", out);
-    out[at] = 0x30 + number(refusal);
-    out[at + 1] = LF;
-    at + 2
+    let mut text = *b"refused 0\n";
+    text[8] = 0x30 + number(refusal);
+    put_text(&text, out, 0)
 }
 
-// The blocks of the transaction that a line is. One that fits a block needs little memory, which is
-// cheaper to make.
+// The blocks of the transaction that a line is, printed from the line itself: no memory holds its CRs.
+// The last stands behind the loop, which a line of one block never enters.
 fn put_line(line: &[u8], space: usize, out: &mut [u8]) -> usize
     requires { ⌜ (checkedLine (now line) ≡ done space) × (10248 ≤ length (now out)) ⌝ }
     ensures { λ r. ⌜ Laid (printedBlocks (fieldsOf (now (line .entry)))) r (now (out .entry)) (now (out .exit)) ⌝ }
 {
-    if line.len() < INFORMATION {
-        let mut info = [0; INFORMATION];
-        let mut blocks = [0; BLOCK];
-        return put_blocks(line, space, &mut info, &mut blocks, out);
-    }
-    let mut info = [0; 2000];
-    let mut blocks = [0; 2048];
-    put_blocks(line, space, &mut info, &mut blocks, out)
-}
-
-// The same with memory for the information and the blocks. These are written together, so that the
-// transaction is tested once; it is legal, and they fit.
-fn put_blocks(
-    line: &[u8],
-    space: usize,
-    info: &mut [u8],
-    blocks: &mut [u8],
-    out: &mut [u8],
-) -> usize
-    requires { ⌜ (checkedLine (now line) ≡ done space)
-        × (length (now line) < length (now info))
-        × (length (blocksOf (segmentation (fieldsOf (now line)))) ≤ length (now blocks))
-        × (10248 ≤ length (now out)) ⌝ }
-    ensures { λ r. ⌜ Laid (printedBlocks (fieldsOf (now (line .entry)))) r (now (out .entry)) (now (out .exit)) ⌝ }
-{
-    let n = put_fields(line, space, info);
-    let end = count(write_segments(&info[..n], blocks));
-    put_lines(&info[..n], &blocks[..end], out)
-}
-
-// The information of a line: CR in the place of its first space, and CR behind it.
-fn put_fields(line: &[u8], space: usize, out: &mut [u8]) -> usize
-    requires { ⌜ (checkedLine (now line) ≡ done space) × (length (now line) < length (now out)) ⌝ }
-    ensures { λ r. ⌜ Laid (fieldsOf (now (line .entry))) r (now (out .entry)) (now (out .exit)) ⌝ }
-{
-    let n = put_text(line, out);
-    out[space] = CR;
-    out[n] = CR;
-    n + 1
-}
-
-// The blocks of a transaction, which stand one after the other, each on a line of its own.
-fn put_lines(info: &[u8], blocks: &[u8], out: &mut [u8]) -> usize
-    requires { ⌜ (length (now info) ≤ 2000)
-        × (now blocks ≡ blocksOf (segmentation (now info)))
-        × (10248 ≤ length (now out)) ⌝ }
-    ensures { λ r. ⌜ Laid (printedBlocks (now (info .entry))) r (now (out .entry)) (now (out .exit)) ⌝ }
-{
-    let count = block_count(info.len());
+    let last = line.len() / INFORMATION;
     let mut index = 0;
     let mut at = 0;
-    while index < count {
-        at += put_printed(blocks, index, &mut out[at..]);
+    while index < last {
+        at = put_block(line, space, index, out, at);
         index += 1;
     }
-    at
+    put_block(line, space, last, out, at)
 }
 
-// The block at an index on a line of its own: all blocks but the last are full.
-fn put_printed(blocks: &[u8], index: usize, out: &mut [u8]) -> usize
-    requires { ⌜ (256 * index < length (now blocks)) × (1281 ≤ length (now out)) ⌝ }
-    ensures { λ r. ⌜ Laid
-        (printedLine (take 256 (drop (256 * index) (now (blocks .entry)))))
+// The block at an index, behind what is there.
+fn put_block(line: &[u8], space: usize, index: usize, out: &mut [u8], at: usize) -> usize
+    requires { ⌜ (checkedLine (now line) ≡ done space)
+        × (index < blockCount (length (now line) + 1))
+        × (at + 1281 ≤ length (now out)) ⌝ }
+    ensures { λ r. ⌜ Added at
+        (printedBlock (segmentAt (fieldsOf (now (line .entry))) index))
         r (now (out .entry)) (now (out .exit)) ⌝ }
 {
-    let from = BLOCK * index;
-    let rest = blocks.len() - from;
-    let end = if rest < BLOCK {
-        blocks.len()
-    } else {
-        from + BLOCK
-    };
-    let at = put_shown(&blocks[from..end], out);
-    out[at] = LF;
-    at + 1
+    let from = INFORMATION * index;
+    let full = from + INFORMATION;
+    let end = least(line.len(), full);
+    put_part(&line[from..end], place(space, from), end < full, out, at)
 }
 
-// Each character as it is printed.
-fn put_shown(text: &[u8], out: &mut [u8]) -> usize
-    requires { ⌜ 5 * length (now text) ≤ length (now out) ⌝ }
-    ensures { λ r. ⌜ Laid (flatMap shown (now (text .entry))) r (now (out .entry)) (now (out .exit)) ⌝ }
+fn least(a: usize, b: usize) -> usize
+    ensures { λ r. ⌜ r ≡ min a b ⌝ }
 {
-    let mut i = 0;
-    let mut at = 0;
-    while i < text.len() {
-        at += put_character(text[i], &mut out[at..]);
-        i += 1;
-    }
-    at
+    if a < b { a } else { b }
 }
 
-// One character as it is printed: the control characters of a block by their names.
-fn put_character(c: u8, out: &mut [u8]) -> usize
-    requires { ⌜ 5 ≤ length (now out) ⌝ }
-    ensures { λ r. ⌜ Laid (shown c) r (now (out .entry)) (now (out .exit)) ⌝ }
+// The place of the space in the characters of a block that start there; one behind them where it
+// stands before them.
+fn place(space: usize, from: usize) -> usize
+    ensures { λ r. ⌜ r ≡ (if ltb space from then 250 else space - from) ⌝ }
 {
-    let from = name_at(c);
-    if from == NAMES {
-        out[0] = c;
-        return 1;
+    if space < from {
+        return INFORMATION;
     }
-    put_name(from, out)
+    space - from
 }
 
-// The name that stands there among the names. The first three have a fifth character.
-fn put_name(from: usize, out: &mut [u8]) -> usize
-    requires { ⌜ (from + 4 ≤ 20) × (5 ≤ length (now out)) ⌝ }
-    ensures { λ r. ⌜ Laid (nameFrom from) r (now (out .entry)) (now (out .exit)) ⌝ }
+// The block of these characters of a line, with CR in the place of the space, and behind them where
+// it is the last.
+fn put_part(part: &[u8], space: usize, last: bool, out: &mut [u8], at: usize) -> usize
+    requires { ⌜ Cut (now part) space × (at + 1281 ≤ length (now out)) ⌝ }
+    ensures { λ r. ⌜ Added at
+        (printedBlock (segmentOf (now (part .entry)) space last))
+        r (now (out .entry)) (now (out .exit)) ⌝ }
 {
-    let names = *b"<STX<ETX<ETB<US><CR>";
-    put_text(&names[from..from + 4], out);
-    if from < 12 {
-        out[4] = b'>';
-        return 5;
+    let start = put_text(b"<STX>", out, at);
+    let end = put_shown(part, space, out, start);
+    let sum = part_sum(part, space);
+    if last {
+        return put_end(b"<CR><ETX>", sum + STX_CR_ETX, out, end);
     }
-    4
+    if space + 1 == part.len() {
+        return put_end(b"<ETB>", sum + STX_ETB, out, end);
+    }
+    put_end(b"<US>", sum + STX_US, out, end)
 }
 
-// Where the character's name stands among the names; their end where it has none.
-fn name_at(c: u8) -> usize
-    ensures { λ r. ⌜ r ≡ nameAt c ⌝ }
+// The characters as they are printed.
+fn put_shown(part: &[u8], space: usize, out: &mut [u8], at: usize) -> usize
+    requires { ⌜ (all printable (now part) ≡ true) × (at + length (now part) + 3 ≤ length (now out)) ⌝ }
+    ensures { λ r. ⌜ Added at
+        (flatMap shown (set (now (part .entry)) space CR))
+        r (now (out .entry)) (now (out .exit)) ⌝ }
 {
-    if 0x20 <= c {
-        return NAMES;
+    if part.len() <= space {
+        return put_text(part, out, at);
     }
-    if c == STX {
-        return 0;
-    }
-    if c == ETX {
-        return 4;
-    }
-    if c == ETB {
-        return 8;
-    }
-    if c == US {
-        return 12;
-    }
-    if c == CR {
-        return 16;
-    }
-    NAMES
+    let first = put_text(&part[..space], out, at);
+    let second = put_text(b"<CR>", out, first);
+    put_text(&part[space + 1..], out, second)
 }
 
-fn put_text(text: &[u8], out: &mut [u8]) -> usize
-    requires { ⌜ length (now text) ≤ length (now out) ⌝ }
-    ensures { λ r. ⌜ Laid (now (text .entry)) r (now (out .entry)) (now (out .exit)) ⌝ }
+// The sum of their values, modulo 4,096.
+fn part_sum(part: &[u8], space: usize) -> u16
+    requires { ⌜ Cut (now part) space ⌝ }
+    ensures { λ r. ⌜ (r < 8192) × (r % 4096 ≡ Checksum.checksum (set (now (part .entry)) space CR)) ⌝ }
 {
-    copy(text, out);
-    text.len()
+    let sum = checksum(part);
+    if space < part.len() {
+        return sum + CR_FOR_SPACE;
+    }
+    sum
+}
+
+// The end of a block: the names of its last characters, the check of the sum, CR, and the end of the
+// line.
+fn put_end(names: &[u8], sum: u16, out: &mut [u8], at: usize) -> usize
+    requires { ⌜ at + length (now names) + 8 ≤ length (now out) ⌝ }
+    ensures { λ r. ⌜ Added at
+        (now (names .entry) ++ lineEnd (sum % 4096))
+        r (now (out .entry)) (now (out .exit)) ⌝ }
+{
+    let end = put_text(names, out, at);
+    let check = [
+        carry(sum / 256),
+        carry(sum / 16),
+        carry(sum),
+        b'<',
+        b'C',
+        b'R',
+        b'>',
+        LF,
+    ];
+    put_text(&check, out, end)
+}
+
+// The character that carries the lowest four bits.
+fn carry(bits: u16) -> u8
+    ensures { λ r. ⌜ r ≡ 0x30 + bits % 16 ⌝ }
+{
+    (0x30 + bits % 16) as u8
+}
+
+// A text, behind what is there.
+fn put_text(text: &[u8], out: &mut [u8], at: usize) -> usize
+    requires { ⌜ at + length (now text) ≤ length (now out) ⌝ }
+    ensures { λ r. ⌜ Added at (now (text .entry)) r (now (out .entry)) (now (out .exit)) ⌝ }
+{
+    copy(text, &mut out[at..]);
+    at + text.len()
 }

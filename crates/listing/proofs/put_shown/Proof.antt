@@ -1,95 +1,129 @@
--- `put_shown` meets its contract: after i turns the first i characters are printed at the start of the output, in at most five bytes each.
-use mathlib.Core.List.{flatMap}
-use mathlib.Core.Path.{_≡_, refl}
-use Prim.Native.Nat.{_+_, _-_, _*_, _≤_}
+-- `put_shown` meets its contract: all of the characters but the space are printed as they are, and CR by its name.
+use mathlib.Core.List.{_++_, append-assoc}
+use mathlib.Core.Path.{_≡_, sym, _∙_}
+use Prim.Native.Nat.{_+_, _-_}
 use native.Mathlib.Omega.{arith}
-use borrow.Rule.Slice.PartMut.{putMid}
-use lib.ListN.{length, getD, take}
-use lib.Seq.{take-all}
-use Rattle.line.specs.Answer.{Laid}
-use Rattle.line.proofs.FlatLaws.{flat-turn}
-use Rattle.line.proofs.LaidLaws.{part-length, laid-none}
-use Rattle.listing.specs.Listing.{shown}
-use Rattle.listing.proofs.ListingLaws.{shown-length}
+use lib.ListN.{length, take, drop, length-drop}
+use lib.Seq.{take-all, length-take-le}
+use Rattle.line.specs.Text.{bytesOf}
+use Rattle.listing.specs.Listing.{Added}
+use Rattle.listing.proofs.ListingLaws.{added-length, added-more, shown-marked, shown-unmarked}
 use borrow.Author.Needs.{needs}
 use Rattle.listing.proofs.put_shown.Statement.{statement}
 use Rattle.listing.proofs.put_shown.Tie as tie
 
-abbrev Inv-loop : tie.InvT-loop
-Inv-loop text out₀ i₀ at₀ out i at = (i ≤ length text) × (at ≤ 5 * i) × (length out ≡ length out₀) × Laid (flatMap shown (take i text)) at out₀ out
+-- what stands before the space is as long as its place says
+first-length : (c : tie.Else1) →
+    let a = c .before .before .before .args in
+    length (take (a .space) (a .part .now)) ≡ a .space
+first-length c =
+    let left = c .if1 .left in
+    length-take-le _ _ (omega arith)
 
-abbrev μ-loop : tie.MeasureT-loop
-μ-loop text out₀ i₀ at₀ out i at = length text - i
+-- it is put, and the memory keeps its length
+first : (c : tie.After-put-text2) →
+    let a = c .before .before .before .before .before .before .args in
+    (c .put-text2 .result ≡ a .at + a .space) × (length (c .put-text2 .last .1 .0) ≡ length (a .out .now))
+first c =
+    let long = first-length (c .before .before .before) in
+    let e = c .put-text2 .ensures in
+    (omega (arith, e .ends), added-length e (omega arith))
 
--- one character more
-turn : (c : tie.After-slice-known2 Inv-loop μ-loop) →
-    let r = c .before .before .put-character .result in
-    let l = c .before .before .before .before .before .before .loop in
-    let a = c .before .before .before .before .before .before .before .before .before .args in
-    let after = putMid (l .at) (length (l .out) - l .at) (l .out) (c .before .before .put-character .last .1 .0) in
-    (r ≤ 5) × (length after ≡ length (a .out .now)) × Laid (flatMap shown (take (l .i + 1) (a .text .now))) (l .at + r) (a .out .now) after
-turn c =
-    let l = c .before .before .before .before .before .before .loop in
-    let text = c .before .before .before .before .before .before .before .before .before .args .text .now in
-    flat-turn shown 5 text 0 (l .i) (shown-length (getD text (l .i) 0)) (omega arith) (omega arith) (l .inv .3) (c .before .before .put-character .ensures)
+-- CR is put behind it
+second : (c : tie.After-put-text3) →
+    let a = c .before .before .before .before .before .before .before .before .before .before .before .args in
+    Added (a .at) (take (a .space) (a .part .now) ++ bytesOf "<CR>") (c .put-text3 .result) (a .out .now) (c .put-text3 .last .1 .0)
+second c = added-more (c .before .before .before .before .before .put-text2 .ensures) (omega arith) (c .put-text3 .ensures)
 
-loop-holds : tie.Need-loop-holds Inv-loop μ-loop
-unfolding flatMap
-loop-holds c = (search needs, search needs, refl, laid-none _)
+-- and the memory keeps its length
+second-length : (c : tie.After-put-text3) →
+    let a = c .before .before .before .before .before .before .before .before .before .before .before .args in
+    (c .put-text3 .result ≡ a .at + a .space + 4) × (length (c .put-text3 .last .1 .0) ≡ length (a .out .now))
+second-length c =
+    let t = c .before .before .before .before .before in
+    let left = t .before .before .before .if1 .left in
+    let (ends, long) = first t in
+    let e = c .put-text3 .ensures in
+    (omega (arith, e .ends), added-length e (omega arith) ∙ long)
 
-shared-slice-read-put-character : tie.Need-shared-slice-read-put-character Inv-loop μ-loop
-shared-slice-read-put-character c = search needs
+-- what stands behind the space
+rest : (c : tie.Else1) →
+    let a = c .before .before .before .args in
+    take (length (a .part .now) - (a .space + 1)) (drop (a .space + 1) (a .part .now)) ≡ drop (a .space + 1) (a .part .now)
+rest c =
+    let a = c .before .before .before .args in
+    take-all (length (a .part .now) - (a .space + 1)) (drop (a .space + 1) (a .part .now)) (omega (arith, length-drop (a .space + 1) (a .part .now)))
 
-sub-put-character : tie.Need-sub-put-character Inv-loop μ-loop
-sub-put-character c = search needs
+put-text-requires : tie.Need-put-text-requires
+put-text-requires c κs = search needs
 
-part-put-character-start : tie.Need-part-put-character-start Inv-loop μ-loop
-part-put-character-start c = search needs
-
-part-put-character-end : tie.Need-part-put-character-end Inv-loop μ-loop
-part-put-character-end c = search needs
-
-put-character-requires : tie.Need-put-character-requires Inv-loop μ-loop
-put-character-requires c κs =
-    let l = c .before .before .before .loop in
-    rw (part-length (l .at) (l .out)) (omega arith)
-
-add-at : tie.Need-add-at Inv-loop μ-loop
-add-at c = omega (arith, turn c .0)
-
-add-i : tie.Need-add-i Inv-loop μ-loop
-add-i c = search needs
-
-loop-less : tie.Need-loop-less Inv-loop μ-loop
-loop-less c = search needs
-
-loop-again : tie.Need-loop-again Inv-loop μ-loop
-loop-again c = (search needs, omega (arith, turn c .0), turn c .1, turn c .2)
-
-same-length : tie.Need-same-length Inv-loop μ-loop
+same-length : tie.Need-same-length
 same-length c = search needs
 
-returns : tie.Need-returns Inv-loop μ-loop
+returns : tie.Need-returns
 returns c =
-    let l = c .before .loop in
-    let text = c .before .before .before .before .args .text .now in
-    rw (take-all (l .i) text (c .loop-test .left)) at (l .inv .3)
+    let t = c .before .before .before .before in
+    let s = t .before .before .before in
+    rw (shown-unmarked (s .args .part .now) (s .args .space) (s .pre .0) (t .if1 .taken)) (c .before .before .put-text .ensures)
+
+slice-aggregate-put-text : tie.Need-slice-aggregate-put-text
+slice-aggregate-put-text c = sym (first-length (c .before))
+
+put-text-requires-2 : tie.Need-put-text-requires-2
+put-text-requires-2 c κs = omega (arith, first-length (c .before .before))
+
+slice-aggregate-put-text-2 : tie.Need-slice-aggregate-put-text-2
+slice-aggregate-put-text-2 c = search needs
+
+put-text-requires-3 : tie.Need-put-text-requires-3
+put-text-requires-3 c κs = omega (arith, first (c .before .before .before .before))
+
+add-put-text : tie.Need-add-put-text
+add-put-text c = search needs
+
+sub-put-text : tie.Need-sub-put-text
+sub-put-text c = search needs
+
+part-put-text-start : tie.Need-part-put-text-start
+part-put-text-start c = search needs
+
+part-put-text-end : tie.Need-part-put-text-end
+part-put-text-end c = search needs
+
+put-text-requires-4 : tie.Need-put-text-requires-4
+put-text-requires-4 c κs =
+    let k = c .before .before .before .before in
+    let e = k .before .before .before .before .before .before .before .before in
+    let a = e .before .before .before .args in
+    let left = e .if1 .left in
+    rw (rest e) (omega (arith, second-length k, length-drop (a .space + 1) (a .part .now)))
+
+same-length-2 : tie.Need-same-length-2
+same-length-2 c = search needs
+
+returns-2 : tie.Need-returns-2
+returns-2 c =
+    let k = c .before .before .before .before .before .before .before in
+    let e = k .before .before .before .before .before .before .before .before in
+    let s = e .before .before .before in
+    let last = rw (rest e) at (c .before .before .put-text4 .ensures) in
+    rw (shown-marked (s .args .part .now) (s .args .space) (s .pre .0) (e .if1 .left), ← append-assoc) (added-more (second k) (omega arith) last)
 
 pub put-shown-spec : {M : Type 1} → statement M
 put-shown-spec =
     tie.close
     (tie.spec
-    Inv-loop
-    μ-loop
-    loop-holds
-    shared-slice-read-put-character
-    sub-put-character
-    part-put-character-start
-    part-put-character-end
-    put-character-requires
-    add-at
-    add-i
-    loop-less
-    loop-again
+    put-text-requires
     same-length
-    returns)
+    returns
+    slice-aggregate-put-text
+    put-text-requires-2
+    slice-aggregate-put-text-2
+    put-text-requires-3
+    add-put-text
+    sub-put-text
+    part-put-text-start
+    part-put-text-end
+    put-text-requires-4
+    same-length-2
+    returns-2)
