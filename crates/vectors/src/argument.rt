@@ -1,187 +1,158 @@
-// The words of a call: a letter, then arguments with a space before each.
-use line::memory::find;
-ghost use Prim.Native.Nat.{_+_, _<_, _≤_};
+// A call in memory: a table of numbers, then the bytes of every word, one word behind the other. The
+// number at an index is where the word at that index begins, and the next one where it ends; there is
+// room for 31. The letter, the word at 0, begins where the table ends: the number at 0 is that of the
+// arguments.
+use std::num::wrapping_add_u8;
+use std::num::wrapping_add_u16;
+ghost use mathlib.Core.Path.{_≡_};
+ghost use Prim.Native.Nat.{_<_};
 ghost use lib.ListN.{length};
-ghost use Rattle.io.specs.Counts.{Counts};
 
-// Bytes as an argument writes them: a pair of hex digits, how often it stands there, and where the
-// next begins.
+// Where the table ends.
+const TABLE: u16 = 64;
+
+// Where the letter stands.
+pub(crate) const LETTER: usize = 64;
+
+// Where the number of arguments stands.
+pub(crate) const COUNT: usize = 1;
+
+// Bytes as a line writes them: a byte and how often it stands there; the characters that say so, and
+// the words that they begin.
 struct Run {
     byte: u8,
-    count: usize,
-    next: usize,
+    count: u16,
+    length: u8,
+    words: u8,
 }
 
-// The letter that the word at an index is; 0 where there is no such word.
-pub(crate) fn letter(call: &[u8], index: usize) -> u8 {
-    let text = word(call, index, b' ');
-    if text.len() == 0 {
-        return 0;
-    }
-    text[0]
+// The word that is being put into memory, and where it ends so far.
+struct Place {
+    word: u8,
+    end: u16,
+}
+
+// The text that the call is on: its last argument.
+pub(crate) fn text(call: &[u8]) -> &[u8] {
+    word(call, byte(call, COUNT))
 }
 
 // The number that the word at an index is.
-pub(crate) fn number(call: &[u8], index: usize) -> usize
+pub(crate) fn number(call: &[u8], index: u8) -> usize
     ensures { λ r. ⌜ r < 65536 ⌝ }
 {
-    let mut pair = [0; 2];
-    bytes(call, index, &mut pair);
-    wide(pair[0], pair[1])
+    number_at(word(call, index), 0)
 }
 
-// The number that the word at an index is, as the size of a part of the memory.
-pub(crate) fn size(call: &[u8], index: usize, memory: &[u8]) -> usize
-    ensures { λ r. ⌜ Counts r (now (memory .entry)) ⌝ }
+// The bytes of the word at an index.
+pub(crate) fn word(call: &[u8], index: u8) -> &[u8] {
+    let at = index as usize * 2;
+    part(call, number_at(call, at), number_at(call, at + 2))
+}
+
+// The bytes between two places; all of them where there are no such places.
+pub(crate) fn part(memory: &[u8], from: usize, to: usize) -> &[u8] {
+    if memory.len() < to {
+        return memory;
+    }
+    if to < from {
+        return memory;
+    }
+    &memory[from..to]
+}
+
+// The number in the two bytes at a place, high first.
+pub(crate) fn number_at(memory: &[u8], at: usize) -> usize
+    requires { ⌜ at < 65536 ⌝ }
+    ensures { λ r. ⌜ r < 65536 ⌝ }
 {
-    io::count(number(call, index) as isize, memory)
+    byte(memory, at) as usize * 256 + byte(memory, at + 1) as usize
 }
 
-// The bytes that the word at an index is, at the start of the output, as far as it has room.
-pub(crate) fn bytes(call: &[u8], index: usize, out: &mut [u8]) -> usize
-    ensures { λ r. ⌜ Counts r (now (out .exit)) ⌝ }
+// The byte at a place; 0 behind the end.
+pub(crate) fn byte(memory: &[u8], at: usize) -> u8 {
+    if memory.len() <= at {
+        return 0;
+    }
+    memory[at]
+}
+
+// Puts a line into memory as a call.
+pub(crate) fn decode(line: &[u8], memory: &mut [u8])
+    requires { ⌜ 65536 ≡ length (now memory) ⌝ }
 {
-    decode(word(call, index, b' '), out)
-}
-
-// The number of arguments: one behind each space.
-pub(crate) fn count(call: &[u8]) -> usize {
-    let mut n = 0;
+    let mut place = Place {
+        word: 0,
+        end: TABLE,
+    };
     let mut i = 0;
-    while i < call.len() {
-        n += marks(call[i], b' ');
-        i += 1;
+    while i < line.len() {
+        let run = run_of(&line[i..]);
+        place = put(run, place, memory);
+        i += run.length as usize;
     }
-    n
 }
 
-// The word at an index, from 0, where a mark stands between words; nothing where there is no such
-// word.
-pub(crate) fn word(text: &[u8], index: usize, mark: u8) -> &[u8] {
-    let start = word_start(text, index, mark);
-    let end = find(text, start, mark);
-    &text[start..end]
-}
-
-// Where the word at an index begins: behind so many marks.
-fn word_start(text: &[u8], index: usize, mark: u8) -> usize
-    ensures { λ r. ⌜ r ≤ length (now (text .entry)) ⌝ }
+// Puts the bytes of a run into memory, and into the table where they end.
+fn put(run: Run, place: Place, memory: &mut [u8]) -> Place
+    requires { ⌜ 65536 ≡ length (now memory) ⌝ }
 {
-    let mut left = index;
-    let mut i = 0;
-    while i < text.len() {
-        if left == 0 {
-            return i;
-        }
-        left -= marks(text[i], mark);
-        i += 1;
+    let byte = run.byte;
+    let word = wrapping_add_u8(place.word, run.words);
+    let mut end = place.end;
+    let mut left = run.count;
+    while 0 < left {
+        memory[end as usize] = byte;
+        end = wrapping_add_u16(end, 1);
+        left -= 1;
     }
-    i
+    let at = word as usize * 2 + 2;
+    memory[at] = (end / 256) as u8;
+    memory[at + 1] = (end % 256) as u8;
+    memory[COUNT] = word;
+    Place { word, end }
 }
 
-// 1 for the mark, 0 for any other character.
-fn marks(c: u8, mark: u8) -> usize
-    ensures { λ r. ⌜ r ≤ 1 ⌝ }
+// The run at the start of the text. A `-` is none; a character that stands alone is itself.
+fn run_of(text: &[u8]) -> Run
+    ensures { λ r. ⌜ 0 < r .length ⌝ }
 {
-    if c == mark {
-        return 1;
-    }
-    0
-}
-
-fn decode(text: &[u8], out: &mut [u8]) -> usize
-    ensures { λ r. ⌜ Counts r (now (out .exit)) ⌝ }
-{
-    let mut n = 0;
-    let mut i = 0;
-    while i < text.len() {
-        let run = run_at(text, i);
-        n = put_run(run, out, n);
-        i = run.next;
-    }
-    n
-}
-
-// The run that begins at a place. A `-`, or a pair that is cut short, is none.
-fn run_at(text: &[u8], i: usize) -> Run
-    requires { ⌜ i < length (now text) ⌝ }
-    ensures { λ r. ⌜ i < r .next ⌝ }
-{
-    if text.len() - i < 2 {
+    let first = byte(text, 0);
+    if first < b'0' {
         return Run {
             byte: 0,
             count: 0,
-            next: text.len(),
+            length: 1,
+            words: (first == b' ') as u8,
         };
     }
-    let byte = byte_at(text, i);
-    if count_length(text, i + 2) < 5 {
+    if byte(text, 1) < b'0' {
         return Run {
-            byte,
+            byte: first,
             count: 1,
-            next: i + 2,
+            length: 1,
+            words: 0,
+        };
+    }
+    if byte(text, 2) == b'*' {
+        return Run {
+            byte: pair(text, 0),
+            count: pair(text, 3) as u16 * 256 + pair(text, 5) as u16,
+            length: 7,
+            words: 0,
         };
     }
     Run {
-        byte,
-        count: wide(byte_at(text, i + 3), byte_at(text, i + 5)),
-        next: i + 7,
+        byte: pair(text, 0),
+        count: 1,
+        length: 2,
+        words: 0,
     }
-}
-
-// How long the count that begins at a place is: 5 for a `*` and four hex digits, 0 for none.
-fn count_length(text: &[u8], i: usize) -> usize
-    requires { ⌜ i ≤ length (now text) ⌝ }
-    ensures { λ r. ⌜ i + r ≤ length (now (text .entry)) ⌝ }
-{
-    if text.len() - i < 5 {
-        return 0;
-    }
-    if text[i] != b'*' {
-        return 0;
-    }
-    5
 }
 
 // The byte of the two hex digits at a place.
-fn byte_at(text: &[u8], i: usize) -> u8
-    requires { ⌜ i + 2 ≤ length (now text) ⌝ }
-{
-    digit(text[i]) * 16 + digit(text[i + 1])
-}
-
-// The bytes of a run, at a place of the output, as far as it has room.
-fn put_run(run: Run, out: &mut [u8], at: usize) -> usize
-    requires { ⌜ at ≤ length (now out) ⌝ }
-    ensures { λ r. ⌜ r ≤ length (now (out .exit)) ⌝ }
-{
-    let byte = run.byte;
-    let mut left = run.count;
-    let mut end = at;
-    while 0 < left {
-        end = put_byte(byte, out, end);
-        left -= 1;
-    }
-    end
-}
-
-// A byte at a place of the output, if there is room.
-fn put_byte(byte: u8, out: &mut [u8], at: usize) -> usize
-    requires { ⌜ at ≤ length (now out) ⌝ }
-    ensures { λ r. ⌜ r ≤ length (now (out .exit)) ⌝ }
-{
-    if out.len() <= at {
-        return at;
-    }
-    out[at] = byte;
-    at + 1
-}
-
-// The number in two bytes, high first.
-pub(crate) fn wide(high: u8, low: u8) -> usize
-    ensures { λ r. ⌜ r < 65536 ⌝ }
-{
-    high as usize * 256 + low as usize
+fn pair(text: &[u8], at: u8) -> u8 {
+    digit(byte(text, at as usize)) * 16 + digit(byte(text, at as usize + 1))
 }
 
 // The value of a hex digit: a letter has bit 6, and counts from 1.

@@ -1,21 +1,26 @@
 // The calls, by their letters.
-use crate::answer::behind;
 use crate::answer::print_bytes;
 use crate::answer::print_counted;
 use crate::answer::print_digest;
-use crate::answer::print_name;
 use crate::answer::print_number;
-use crate::answer::print_part;
 use crate::answer::print_refusal;
-use crate::answer::print_reply;
-use crate::answer::print_text;
-use crate::answer::start;
-use crate::argument::bytes;
-use crate::argument::letter;
+use crate::answer::reply_name;
+use crate::argument::COUNT;
+use crate::argument::LETTER;
+use crate::argument::byte;
 use crate::argument::number;
-use crate::argument::size;
+use crate::argument::part;
+use crate::argument::text;
+use crate::argument::word;
+use crate::ends::PAGERS;
+use crate::ends::list_pagers;
 use crate::ends::print_conversation;
 use crate::ends::print_play;
+use crate::names;
+use crate::names::COMMA;
+use crate::names::NOTHING;
+use crate::names::SPACE;
+use crate::names::say;
 use crate::runs::print_run;
 use block::Ending;
 use block::Reading;
@@ -23,112 +28,195 @@ use block::checksum::check_characters;
 use block::checksum::checksum;
 use block::frame::information;
 use journal::Step;
+use journal::buffer::BUFFER;
 use journal::cursor::RECORDS;
 use journal::held::step_at;
+use journal::record::newest;
+use journal::record::oldest;
 use line::Checked;
 use line::Written;
+use line::memory::copy;
 use reassembly::Reassembled;
 use reassembly::Reassembly;
 use reassembly::reassemble;
 use segmentation::block_count;
 use segmentation::write_segment;
 use segmentation::write_segments;
+use std::num::wrapping_add_usize;
+ghost use mathlib.Core.Path.{_≡_};
+ghost use Prim.Native.Nat.{_<_};
+ghost use lib.ListN.{length};
 
-// What comes of a call. Its last argument is the text that the call is on.
+// What an output holds before a step.
+const FILLER: u8 = 0xA5;
+
+// What a call lends: memory of a size, with the bytes of a word at its start, and an output of a
+// size, filled with a byte.
+struct Loan {
+    size: usize,
+    word: u8,
+    room: usize,
+    filler: u8,
+}
+
+// What comes of a call.
 pub(crate) fn print_answer(call: &[u8]) {
-    let mut space = io::large_buffer();
-    let n = bytes(call, crate::argument::count(call), &mut space);
-    let text = &space[..n];
-    match letter(call, 0) {
+    let text = text(call);
+    match byte(call, LETTER) {
         b'c' => print_checksum(text),
-        b'r' => print_reading(text),
+        b'r' => print_block(text),
+        b'y' => say(reply_name(reply::read(text))),
         b'j' => print_reassembly(call),
-        b'y' => print_reply(reply::read(text)),
         b'k' => print_check(text),
         b'v' => print_walk(text),
-        b'd' | b'f' => print_conversation(call),
-        b'e' | b'g' => print_play(call),
-        b'u' => print_run(call, text),
-        b'n' => print_bytes(journal::record::newest(text, number(call, 1))),
-        b'o' => print_bytes(journal::record::oldest(text, number(call, 1))),
-        _ => print_output(call, text),
+        b'n' => print_bytes(NOTHING, newest(text, number(call, 1))),
+        b'o' => print_bytes(NOTHING, oldest(text, number(call, 1))),
+        _ => lend(call),
     }
 }
 
-// What a writer wrote into memory of the size that the first argument gives, or why nothing.
-fn print_output(call: &[u8], text: &[u8]) {
-    let mut memory = io::large_buffer();
-    let n = size(call, 1, &memory);
-    print_lent(call, text, &mut memory[..n]);
+// Lends the memory of a call; its fourth argument may be a pager list.
+fn lend(call: &[u8]) {
+    let loan = loan_of(call);
+    let size = loan.size;
+    let room = loan.room;
+    let mut memory = filled(0);
+    let mut out = filled(loan.filler);
+    copy(word(call, loan.word), &mut memory);
+    let numbers = word(call, 4);
+    let pagers = list_pagers(numbers);
+    let n = numbers.len() / 4 % (PAGERS + 1);
+    print_lent(call, &pagers[0..n], &mut memory[0..size], &mut out[0..room]);
 }
 
-fn print_lent(call: &[u8], text: &[u8], memory: &mut [u8]) {
-    let written = write(call, text, memory);
-    match written {
-        Written::Count(n) => print_written(call, text, start(memory, n)),
+// So many bytes of one kind. The `ensures` gives only the length, which lending the array needs.
+fn filled(byte: u8) -> [u8; 65536]
+    ensures { λ r. ⌜ 65536 ≡ length r ⌝ }
+{
+    [byte; 65536]
+}
+
+// What the call lends.
+fn loan_of(call: &[u8]) -> Loan
+    ensures { λ r. ⌜ (r .size < 65536) × (r .room < 65536) ⌝ }
+{
+    match byte(call, LETTER) {
+        b'd' => Loan {
+            size: BUFFER,
+            word: 5,
+            room: 256,
+            filler: FILLER,
+        },
+        b'f' => Loan {
+            size: number(call, 11),
+            word: 5,
+            room: number(call, 12),
+            filler: FILLER,
+        },
+        b'u' => Loan {
+            size: number(call, 8),
+            word: 5,
+            room: number(call, 10),
+            filler: 0,
+        },
+        b'e' => Loan {
+            size: 0,
+            word: 0,
+            room: 512,
+            filler: FILLER,
+        },
+        b'g' => Loan {
+            size: 0,
+            word: 0,
+            room: number(call, 8),
+            filler: FILLER,
+        },
+        _ => Loan {
+            size: number(call, 1),
+            word: 2,
+            room: 0,
+            filler: 0,
+        },
+    }
+}
+
+// What comes of a call in the memory that it lends.
+fn print_lent(call: &[u8], pagers: &[u32], memory: &mut [u8], out: &mut [u8]) {
+    match byte(call, LETTER) {
+        b'd' | b'f' => print_conversation(call, pagers, memory, out),
+        b'u' => print_run(call, pagers, memory, out),
+        b'e' | b'g' => print_play(call, out),
+        _ => print_output(call, memory),
+    }
+}
+
+// What a writer wrote into the memory, or why nothing.
+fn print_output(call: &[u8], memory: &mut [u8]) {
+    let written = write(call, text(call), memory);
+    print_outcome(call, written, memory);
+}
+
+// The bytes that were put out at the start of the memory, or why none.
+pub(crate) fn print_outcome(call: &[u8], outcome: Written, memory: &[u8]) {
+    match outcome {
+        Written::Count(n) => print_written(call, part(memory, 0, n)),
         Written::Refused(refusal) => print_refusal(refusal),
     }
 }
 
+// The call of a writer.
 fn write(call: &[u8], text: &[u8], memory: &mut [u8]) -> Written {
-    match letter(call, 0) {
+    match byte(call, LETTER) {
         b'p' => line::parity::set_parity(text, memory),
         b'q' => line::parity::clear_parity(text, memory),
-        b'w' => block::frame::write(text, ending_of(letter(call, 2)), memory),
+        b'w' => block::frame::write(text, ending_of(call), memory),
         b's' => write_segments(text, memory),
         b't' => write_segment(text, number(call, 2), memory),
-        _ => append(call, text, memory),
+        _ => append::append(memory, word(call, 2).len(), text),
     }
 }
 
-// The number of blocks before all blocks of a transaction, a journal by its digest.
-fn print_written(call: &[u8], text: &[u8], written: &[u8]) {
-    match letter(call, 0) {
+// The number of blocks before all blocks of a transaction, a journal by its digest, what an end of
+// the line puts out without its length.
+fn print_written(call: &[u8], written: &[u8]) {
+    match byte(call, LETTER) {
+        b'd' | b'e' | b'f' | b'g' => print_bytes(NOTHING, written),
         b's' => {
-            print_number(block_count(text.len()));
-            print_text(b": ");
-            print_counted(written);
+            print_number(NOTHING, block_count(text(call).len()));
+            print_counted(names::COLON, written);
         }
-        b'a' => print_digest(written),
-        _ => print_counted(written),
+        b'a' => print_digest(NOTHING, written),
+        _ => print_counted(NOTHING, written),
     }
-}
-
-// The journal that the second argument is, at the start of the memory, with the text appended.
-fn append(call: &[u8], text: &[u8], memory: &mut [u8]) -> Written {
-    let length = bytes(call, 2, memory);
-    append::append(memory, length, text)
 }
 
 // The checksum, and the characters that carry it.
 fn print_checksum(text: &[u8]) {
-    print_number(checksum(text) as usize);
+    print_number(NOTHING, checksum(text) as usize);
     let check = check_characters(text);
-    print_part(&check);
+    print_bytes(SPACE, &check);
 }
 
 // The ending and the information of the block that the text is.
-fn print_reading(text: &[u8]) {
+fn print_block(text: &[u8]) {
     let reading = block::frame::read(text);
     match reading {
-        Reading::Block(ending) => {
-            print_name(b"x |b |u ", ending_index(ending));
-            print_counted(information(text));
-        }
+        Reading::Block(ending) => print_counted(ending_name(ending), information(text)),
         Reading::Refused(refusal) => print_refusal(refusal),
     }
 }
 
-fn ending_index(ending: Ending) -> usize {
+fn ending_name(ending: Ending) -> u8 {
     match ending {
-        Ending::Etx => 0,
-        Ending::Etb => 1,
-        Ending::Us => 2,
+        Ending::Etx => names::ETX,
+        Ending::Etb => names::ETB,
+        Ending::Us => names::US,
     }
 }
 
-fn ending_of(letter: u8) -> Ending {
-    match letter {
+// The ending that the second argument is.
+fn ending_of(call: &[u8]) -> Ending {
+    match byte(word(call, 2), 0) {
         b'x' => Ending::Etx,
         b'b' => Ending::Etb,
         _ => Ending::Us,
@@ -139,26 +227,30 @@ fn ending_of(letter: u8) -> Ending {
 // held at the end.
 fn print_reassembly(call: &[u8]) {
     let mut memory = [0; 2000];
-    let count = crate::argument::count(call);
+    let count = byte(call, COUNT);
     let mut state = reassembly::start();
     let mut index = 0;
     while index < count {
+        if 0 < index {
+            say(COMMA);
+        }
         index += 1;
-        state = join(call, index, state, &mut memory);
+        state = join(word(call, index), state, &mut memory);
     }
-    print_part(start(&memory, state.length));
+    print_bytes(SPACE, part(&memory, 0, state.length));
 }
 
 // One block more; a block that is refused changes nothing.
-fn join(call: &[u8], index: usize, state: Reassembly, memory: &mut [u8]) -> Reassembly {
-    let mut block = [0; 512];
-    let n = bytes(call, index, &mut block);
-    print_name(b"|, ", (1 < index) as usize);
-    let joined = reassemble(state, &block[..n], memory);
+fn join(block: &[u8], state: Reassembly, memory: &mut [u8]) -> Reassembly {
+    let joined = reassemble(state, block, memory);
     match joined {
         Reassembled::Next(next) => {
-            print_number(next.length);
-            print_name(b" part| whole", next.complete as usize);
+            print_number(NOTHING, next.length);
+            say(if next.complete {
+                names::WHOLE
+            } else {
+                names::PART
+            });
             next
         }
         Reassembled::Refused(refusal) => {
@@ -172,13 +264,13 @@ fn join(call: &[u8], index: usize, state: Reassembly, memory: &mut [u8]) -> Reas
 fn print_check(text: &[u8]) {
     let checked = journal::record::check(text);
     match checked {
-        Checked::Count(n) => print_number(n),
+        Checked::Count(n) => print_number(NOTHING, n),
         Checked::Refused(refusal) => print_refusal(refusal),
     }
 }
 
-// The records of the journal that the text is, from the newest back, as the cursor that holds it meets them;
-// and how the walk ends.
+// The records of the journal that the text is, from the newest back, as the cursor that holds it
+// meets them; and how the walk ends.
 fn print_walk(text: &[u8]) {
     let mut index = 0;
     while index <= RECORDS {
@@ -193,12 +285,13 @@ fn print_walk(text: &[u8]) {
 fn print_place(journal: &[u8], at: Step) -> bool {
     match at {
         Step::Record(place) => {
-            print_bytes(start(behind(journal, place.start), place.length));
-            print_text(b" ");
+            let end = wrapping_add_usize(place.start, place.length);
+            print_bytes(NOTHING, part(journal, place.start, end));
+            say(SPACE);
             true
         }
         Step::End => {
-            print_text(b"end");
+            say(names::END);
             false
         }
         Step::Refused(refusal) => {

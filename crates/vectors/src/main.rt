@@ -5,6 +5,7 @@ mod answer;
 mod argument;
 mod calls;
 mod ends;
+mod names;
 mod runs;
 
 use line::character::LF;
@@ -40,6 +41,8 @@ fn run(input: &[u8]) {
 
 // The answer to one call, on a line.
 fn print_answer(line: &[u8]) {
-    calls::print_answer(line);
-    answer::print_text(&[LF]);
+    let mut call = io::large_buffer();
+    argument::decode(line, &mut call);
+    calls::print_answer(&call);
+    names::say(names::LINE_END);
 }
