@@ -90,12 +90,24 @@ static tyntolai_central_settings side_central(const twin_central_settings *s) {
 }
 #endif
 
+#ifdef PRODUCT
+static tyntolai_central_state side_state(const twin_central *s) {
+    return (tyntolai_central_state){s->stage, s->failures, s->length, s->journal};
+}
+
+static void set_state(twin_central *s, tyntolai_central_state state) {
+    s->stage = state.stage;
+    s->failures = state.failures;
+    s->length = state.length;
+    s->journal = state.journal;
+}
+#endif
+
 // The state before the first call.
 static void central_start(twin_central *s, size_t length) {
 #ifdef PRODUCT
-    tyntolai_central_state state = tyntolai_central_start(length);
-    _Static_assert(sizeof state == sizeof *s, "the two sides' records of a central are laid out alike");
-    memcpy(s, &state, sizeof state);
+    memset(s->pending, 0, sizeof s->pending);
+    set_state(s, tyntolai_central_start(length));
 #else
     twin_central_start(s, length);
 #endif
@@ -105,12 +117,12 @@ static void central_step(const char *name, twin_central *s, const twin_central_s
                          size_t pager_count, uint8_t *journal, size_t size, const uint8_t *string, size_t n,
                          size_t room) {
 #ifdef PRODUCT
-    tyntolai_central_state state;
+    tyntolai_central_state state = side_state(s);
     tyntolai_central_settings settings = side_central(t);
-    memcpy(&state, s, sizeof state);
     MEASURED(name, tyntolai_central_stepped r = tyntolai_central_step(state, settings, pagers, pager_count, journal,
-                                                                      size, string, n, out, room))
-    memcpy(s, &r.state, sizeof *s);
+                                                                      size, s->pending, sizeof s->pending, string, n,
+                                                                      out, room))
+    set_state(s, r.state);
     tyntolai_answer a = r.answer;
 #else
     MEASURED(name, twin_answer a = twin_central_step(s, t, pagers, pager_count, journal, size, string, n, out, room))
@@ -130,10 +142,9 @@ static void central_step(const char *name, twin_central *s, const twin_central_s
 
 static void central_hang_up(twin_central *s, const twin_central_settings *t) {
 #ifdef PRODUCT
-    tyntolai_central_state state;
-    memcpy(&state, s, sizeof state);
-    tyntolai_central_stepped r = tyntolai_central_hang_up(state, side_central(t));
-    memcpy(s, &r.state, sizeof *s);
+    tyntolai_central_stepped r =
+        tyntolai_central_hang_up(side_state(s), side_central(t), s->pending, sizeof s->pending);
+    set_state(s, r.state);
     tyntolai_answer a = r.answer;
 #else
     twin_answer a = twin_central_hang_up(s, t);

@@ -21,7 +21,7 @@ int main(void) {
     const uint32_t pagers[1] = {123};
     const tyntolai_device_settings device_settings = {{"SECRET", 6}, 2};
     const tyntolai_central_settings central_settings = {{"SECRET", 6}, 2000, 2};
-    uint8_t string[TYNTOLAI_STRING], answer[TYNTOLAI_ANSWER];
+    uint8_t string[TYNTOLAI_STRING], answer[TYNTOLAI_ANSWER], pending[TYNTOLAI_PENDING];
     uint8_t verdicts[2] = {TYNTOLAI_UNSENT, TYNTOLAI_UNSENT};
     size_t transmissions = 0;
 
@@ -39,8 +39,8 @@ int main(void) {
         print("device ", string, device.answer.count);
         transmissions++;
         tyntolai_central_stepped heard =
-            tyntolai_central_step(central, central_settings, pagers, 1, journal, sizeof journal, string,
-                                  device.answer.count, answer, sizeof answer);
+            tyntolai_central_step(central, central_settings, pagers, 1, journal, sizeof journal, pending,
+                                  sizeof pending, string, device.answer.count, answer, sizeof answer);
         if (heard.answer.code != 0) return wrong("a step of the central");
         central = heard.state;
         print("central", answer, heard.answer.count);
@@ -55,8 +55,14 @@ int main(void) {
     if (central.journal != sizeof stored || memcmp(journal, stored, sizeof stored) != 0) return wrong("the journal");
     if (device.state.step != TYNTOLAI_STOPPED || device.report != 1 + TYNTOLAI_EOT) return wrong("the close");
 
-    // The line is dropped, and the central waits for the next call.
-    if (tyntolai_central_hang_up(central, central_settings).state.stage != TYNTOLAI_IDLE) return wrong("hanging up");
+    // Memory of another size is no part of a state. The line is dropped, and the central waits for the next call.
+    if (tyntolai_central_hang_up(central, central_settings, pending, sizeof pending - 1).answer.code != 9 ||
+        tyntolai_central_step(central, central_settings, pagers, 1, journal, sizeof journal, pending,
+                              sizeof pending - 1, string, 0, answer, sizeof answer).answer.code != 9) {
+        return wrong("short memory");
+    }
+    tyntolai_central_stepped dropped = tyntolai_central_hang_up(central, central_settings, pending, sizeof pending);
+    if (dropped.answer.code != 0 || dropped.state.stage != TYNTOLAI_IDLE) return wrong("hanging up");
 
     // The same by the run of both ends in one call.
     static uint8_t again[TYNTOLAI_BUFFER];

@@ -97,12 +97,13 @@ typedef struct {
 
 enum { TYNTOLAI_IDLE = 0, TYNTOLAI_LOGON = 1, TYNTOLAI_BLOCK = 2, TYNTOLAI_CLOSED = 3 };
 
-// The central between two strings: its stage, the failures in a row, the unfinished information at the
-// start of its array and its length, and the length of the journal.
+// The central between two strings: its stage, the failures in a row, the length of the unfinished
+// information, and the length of the journal. The unfinished information itself lies at the start of
+// memory of TYNTOLAI_PENDING bytes that the caller keeps beside the state and lends to each step; with any
+// other size the state is out of range.
 typedef struct {
     uint8_t stage;
     size_t failures;
-    uint8_t pending[TYNTOLAI_PENDING];
     size_t length;
     size_t journal;
 } tyntolai_central_state;
@@ -112,18 +113,20 @@ typedef struct {
     tyntolai_central_state state;
 } tyntolai_central_stepped;
 
-// The state before the first call, over a journal of this length.
+// The state before the first call, over a journal of this length; the memory beside it may hold anything.
 tyntolai_central_state tyntolai_central_start(size_t journal_length);
 
 // A string as it came off the line, of no bytes where nothing came: count bytes of answer go to out
 // (TYNTOLAI_ANSWER or more). At most 1,000 pager numbers below 100,000,000. Refusals 9, 1, 7.
 tyntolai_central_stepped tyntolai_central_step(tyntolai_central_state state, tyntolai_central_settings settings,
                                                const uint32_t *pagers, size_t pager_count, uint8_t *journal,
-                                               size_t size, const uint8_t *string, size_t string_length,
-                                               uint8_t *out, size_t room);
+                                               size_t size, uint8_t *pending, size_t pending_size,
+                                               const uint8_t *string, size_t string_length, uint8_t *out,
+                                               size_t room);
 
 // The line was dropped: the central waits for the next call. Refusal 9.
-tyntolai_central_stepped tyntolai_central_hang_up(tyntolai_central_state state, tyntolai_central_settings settings);
+tyntolai_central_stepped tyntolai_central_hang_up(tyntolai_central_state state, tyntolai_central_settings settings,
+                                                  const uint8_t *pending, size_t pending_size);
 
 // ---- The entry device
 

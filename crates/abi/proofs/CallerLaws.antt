@@ -1,17 +1,20 @@
 -- What the steps owe, in numbers: a step that is done gives its own record, one that is refused leaves the caller's.
+use mathlib.Core.Bool.{false}
 use mathlib.Core.List.{List}
 use mathlib.Core.Path.{_≡_, refl, ap, _∙_}
 use Prim.Native.Nat.{ℕ, _<_}
 use native.Mathlib.Omega.{arith}
+use lib.Dec.{ltb}
 use lib.ListN.{length}
 use Rattle.line.proofs.OverlayLaws.{overlay-none}
-use Rattle.line.specs.Answer.{Outcome, done, refused, mapDone, writtenAs}
+use Rattle.line.specs.Answer.{Outcome, done, refused, mapDone, output, overlay, writtenAs}
 use Rattle.journal.specs.Storage.{storedIn}
 use Rattle.central.specs.Reaction.{Reaction, answerBytes}
+use Rattle.central.specs.Lent.{stateOf, controlIn, wholeOf}
 use Rattle.central.specs.Step as CentralStep
 use Rattle.central.specs.Step.{stateBehind}
+use Rattle.central.specs.declared.state.Moved.{Moved}
 use Rattle.central.specs.declared.state.State as Central
-use Rattle.central.specs.declared.state.Stepped as Stepped
 use Rattle.device.specs.Step as DeviceStep
 use Rattle.device.specs.Step.{Sent, moveOf}
 use Rattle.device.specs.declared.state.Step.{Step}
@@ -21,6 +24,7 @@ use Rattle.call.specs.declared.run.Ran.{Ran}
 use Rattle.reply.specs.declared.Meaning.the-variants.{IdRequest, Acceptance, Ack, Nak, Rs, Eot}
 use Rattle.reply.specs.declared.Reply.{Reply}
 use Rattle.reply.specs.declared.Reply.the-variants.{Recognized, Unrecognized}
+use Rattle.abi.proofs.RecordLaws.{record-back}
 use Rattle.abi.specs.Centrals as Centrals
 use Rattle.abi.specs.Devices as Devices
 use Rattle.abi.specs.Replies.{replyNumber}
@@ -32,29 +36,45 @@ use Rattle.abi.specs.declared.devices.DeviceStepped.{DeviceStepped}
 use Rattle.abi.specs.declared.run.RunTotals.{RunTotals}
 
 -- of a step of the central
-pub central-packed : (s : CentralState) (o : Outcome (Reaction (List (List ℕ)))) {w : Outcome ℕ} {t : Central.State} →
-    w ≡ mapDone (λ x. length (answerBytes (x .answer))) o → t ≡ stateBehind (Centrals.stateOf s) o → Centrals.packed s w t ≡ Centrals.centralAnswer s o
-central-packed s (done x) counted behind = rw (counted, behind) refl
-central-packed s (refused n) counted behind = rw counted refl
+pub central-packed : (s : CentralState) (array : List ℕ) (o : Outcome (Reaction (List (List ℕ)))) {w : Outcome ℕ} (t : Central.State) → ltb 3 (s .stage) ≡ false →
+    w ≡ mapDone (λ x. length (answerBytes (x .answer))) o → t ≡ stateBehind (stateOf (Centrals.controlOf s) array) o →
+    Centrals.packed w (controlIn t) ≡ Centrals.centralAnswer s array o
+central-packed s array (done x) t stage counted behind = rw (counted, behind) refl
+central-packed s array (refused n) t stage counted behind = rw (counted, behind, record-back s stage) refl
+
+-- the array behind it
+pub central-pending : (s : CentralState) (array : List ℕ) (o : Outcome (Reaction (List (List ℕ)))) →
+    stateBehind (stateOf (Centrals.controlOf s) array) o .pending ≡ overlay (output (mapDone (λ x. x .next .pending) o)) array
+central-pending s array (done x) = refl
+central-pending s array (refused n) = overlay-none array
 
 -- so what a step owes is owed to a C caller
-pub central-steps : (o : Outcome (Reaction (List (List ℕ)))) {s : CentralState} {t : Stepped.Stepped} {r : CentralStepped} {buffer buffer′ out out′ : List ℕ} →
-    CentralStep.Steps o (Centrals.stateOf s) t buffer buffer′ out out′ → r ≡ Centrals.packed s (writtenAs (t .outcome)) (t .state) →
-    Centrals.CentralSteps o s r buffer buffer′ out out′
-central-steps o {s = s} k e =
-    record { answers = e ∙ central-packed s o (k .answers) (k .state); stored = k .stored; leaves = k .leaves }
+pub central-steps : (o : Outcome (Reaction (List (List ℕ)))) {s : CentralState} {t : Moved} {r : CentralStepped} {array array′ buffer buffer′ out out′ : List ℕ} → ltb 3 (s .stage) ≡ false →
+    CentralStep.Steps o (stateOf (Centrals.controlOf s) array) (wholeOf t array′) buffer buffer′ out out′ → r ≡ Centrals.packed (writtenAs (t .outcome)) (t .control) →
+    Centrals.CentralSteps o s r array array′ buffer buffer′ out out′
+central-steps o {s} {t} {array = array} {array′} stage k e =
+    record {
+      answers = e ∙ central-packed s array o (stateOf (t .control) array′) stage (k .answers) (k .state);
+      pending = ap (λ (u : Central.State). u .pending) (k .state) ∙ central-pending s array o;
+      stored = k .stored;
+      leaves = k .leaves;
+    }
 
 -- and a refusal leaves all
-pub central-refused : {n : ℕ} {s : CentralState} {r : CentralStepped} (buffer out : List ℕ) → r ≡ Centrals.refusing s n →
-    Centrals.CentralSteps (refused n) s r buffer buffer out out
+pub central-refused : {n : ℕ} {s : CentralState} {r : CentralStepped} (array buffer out : List ℕ) → r ≡ Centrals.refusing s n →
+    Centrals.CentralSteps (refused n) s r array array buffer buffer out out
 unfolding storedIn
-central-refused buffer out e = record { answers = e; stored = refl; leaves = overlay-none out }
+central-refused array buffer out e = record { answers = e; pending = overlay-none array; stored = refl; leaves = overlay-none out }
 
 -- where the line was dropped
-pub central-drops : (o : Outcome Central.State) (s : CentralState) {t : Stepped.Stepped} {r : CentralStepped} →
-    CentralStep.Drops o (Centrals.stateOf s) t → r ≡ Centrals.packed s (writtenAs (t .outcome)) (t .state) → r ≡ Centrals.dropAnswer s o
-central-drops (done x) s k e = e ∙ rw (k .answers, k .state) refl
-central-drops (refused n) s k e = e ∙ rw (k .answers) refl
+pub central-drops : (o : Outcome Central.State) (s : CentralState) (array : List ℕ) {t : Moved} {r : CentralStepped} → ltb 3 (s .stage) ≡ false →
+    CentralStep.Drops o (stateOf (Centrals.controlOf s) array) (wholeOf t array) → r ≡ Centrals.packed (writtenAs (t .outcome)) (t .control) → r ≡ Centrals.dropAnswer s o
+central-drops (done x) s array {t} stage k e =
+    let same : t .control ≡ controlIn x = ap controlIn (k .state) in
+    e ∙ rw (k .answers, same) refl
+central-drops (refused n) s array {t} stage k e =
+    let same : t .control ≡ Centrals.controlOf s = ap controlIn (k .state) in
+    e ∙ rw (k .answers, same, record-back s stage) refl
 
 -- of a step of the device
 pub device-packed : (s : DeviceState) (o : Outcome Sent) (step : Step) {w : Outcome ℕ} (t : Device.Stepped) →

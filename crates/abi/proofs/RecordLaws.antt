@@ -1,12 +1,18 @@
 -- The round trips of both ends' records: what was put into one comes out of it.
+use mathlib.Core.Bool.{false}
 use mathlib.Core.Path.{_≡_, refl}
+use Prim.Native.Nat.{ℕ, zero, suc, _≤_}
+use native.Mathlib.Omega.{arith}
+use borrow.Author.Tests.{ltb-false}
+use lib.Dec.{ltb}
+use Rattle.central.specs.declared.state.Control.{Control}
 use Rattle.central.specs.declared.state.Stage.{Stage}
 use Rattle.central.specs.declared.state.Stage.the-variants.{Idle, Logon, Block, Closed}
-use Rattle.central.specs.declared.state.State as Central
 use Rattle.device.specs.declared.state.Step.{Step}
 use Rattle.device.specs.declared.state.Step.the-variants as Step
 use Rattle.abi.specs.Centrals as Centrals
 use Rattle.abi.specs.Devices as Devices
+use Rattle.abi.specs.declared.centrals.CentralState.{CentralState}
 
 -- the stage of its number
 pub stage-back : (stage : Stage) → Centrals.stageOf (Centrals.stageNumber stage) ≡ stage
@@ -15,9 +21,21 @@ stage-back Logon = refl
 stage-back Block = refl
 stage-back Closed = refl
 
--- the central's state out of its record
-pub central-back : (s : Central.State) → Centrals.stateOf (Centrals.recordOf s) ≡ s
-central-back s = rw (stage-back (s .stage)) refl
+-- the number of its stage
+number-back : (n : ℕ) → n ≤ 3 → Centrals.stageNumber (Centrals.stageOf n) ≡ n
+number-back zero h = refl
+number-back (suc zero) h = refl
+number-back (suc (suc zero)) h = refl
+number-back (suc (suc (suc zero))) h = refl
+number-back (suc (suc (suc (suc n)))) h = absurd (omega arith)
+
+-- the central's control out of its record
+pub central-back : (k : Control) → Centrals.controlOf (Centrals.recordOf k) ≡ k
+central-back k = rw (stage-back (k .stage)) refl
+
+-- and the record of the control that it is
+pub record-back : (s : CentralState) → ltb 3 (s .stage) ≡ false → Centrals.recordOf (Centrals.controlOf s) ≡ s
+record-back s h = rw (number-back (s .stage) (ltb-false 3 (s .stage) h)) refl
 
 -- the device's step out of its record
 pub device-back : (step : Step) → Devices.stepOf (Devices.recordOf step) ≡ step

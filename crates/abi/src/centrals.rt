@@ -4,21 +4,20 @@ use crate::answer::of_refusal;
 use crate::answer::of_written;
 use crate::password::Password;
 use crate::password::password_of;
+use central::Control;
+use central::Moved;
 use central::Settings;
 use central::Stage;
-use central::State;
-use central::Stepped;
-use central::step::hang_up;
-use central::step::start;
-use central::step::step;
+use central::lent::hang_up;
+use central::lent::start;
+use central::lent::step;
 use line::Refusal;
-use line::Written;
 ghost use mathlib.Core.Path.{_≡_};
 ghost use lib.ListN as ListN;
-ghost use Rattle.line.specs.Answer.{refusalNumber, writtenAs};
-ghost use Rattle.central.specs.Step.{startOf};
-ghost use Rattle.abi.specs.Centrals.{CentralSteps, centralDropped, centralStepped, dropAnswer, packed, recordOf};
-ghost use Rattle.abi.specs.Centrals.{refusing, stageNumber, stageOf, stateOf};
+ghost use Rattle.line.specs.Answer.{writtenAs};
+ghost use Rattle.central.specs.Lent.{startIn};
+ghost use Rattle.abi.specs.Centrals.{CentralSteps, centralDropped, centralStepped, controlOf, dropAnswer, packed};
+ghost use Rattle.abi.specs.Centrals.{recordOf, refusing, stageNumber, stageOf};
 ghost use Rattle.abi.specs.Settings.{centralSettingsOf};
 
 #[repr(C)]
@@ -28,12 +27,11 @@ pub struct CentralSettings {
     pub retries: usize,
 }
 
-// The stage by its number: 0 Idle, 1 Logon, 2 Block, 3 Closed.
+// The stage by its number: 0 Idle, 1 Logon, 2 Block, 3 Closed. The unfinished information lies in lent memory.
 #[repr(C)]
 pub struct CentralState {
     pub stage: u8,
     pub failures: usize,
-    pub pending: [u8; 2000],
     pub length: usize,
     pub journal: usize,
 }
@@ -50,7 +48,7 @@ const STAGES: u8 = 3;
 // The state before the first call, over a journal of this length.
 #[no_mangle]
 pub extern "C" fn tyntolai_central_start(journal: usize) -> CentralState
-    ensures { λ r. ⌜ r ≡ recordOf (startOf journal) ⌝ }
+    ensures { λ r. ⌜ r ≡ recordOf (startIn journal) ⌝ }
 {
     record_of(start(journal))
 }
@@ -62,29 +60,31 @@ pub extern "C" fn tyntolai_central_step(
     settings: CentralSettings,
     pagers: &[u32],
     journal: &mut [u8],
+    pending: &mut [u8],
     string: &[u8],
     out: &mut [u8],
 ) -> CentralStepped
     ensures { λ r. ⌜
         CentralSteps
-        (centralStepped state settings (now (pagers .entry)) (now (journal .entry)) (now (string .entry))
-        (ListN.length (now (out .entry))))
+        (centralStepped state (now (pending .entry)) settings (now (pagers .entry)) (now (journal .entry))
+        (now (string .entry)) (ListN.length (now (out .entry))))
         state r
+        (now (pending .entry)) (now (pending .exit))
         (now (journal .entry)) (now (journal .exit))
         (now (out .entry)) (now (out .exit)) ⌝ }
 {
     if STAGES < state.stage {
-        return refuse(state, Refusal::Range);
+        return refuse(state);
     }
-    let stepped = step(
-        state_of(state),
+    pack(step(
+        control_of(state),
         settings_of(settings),
         pagers,
         journal,
+        pending,
         string,
         out,
-    );
-    pack(state, stepped)
+    ))
 }
 
 // The line was dropped.
@@ -92,35 +92,34 @@ pub extern "C" fn tyntolai_central_step(
 pub extern "C" fn tyntolai_central_hang_up(
     state: CentralState,
     settings: CentralSettings,
+    pending: &[u8],
 ) -> CentralStepped
-    ensures { λ r. ⌜ r ≡ dropAnswer state (centralDropped state settings) ⌝ }
+    ensures { λ r. ⌜ r ≡ dropAnswer state (centralDropped state (now (pending .entry)) settings) ⌝ }
 {
     if STAGES < state.stage {
-        return refuse(state, Refusal::Range);
+        return refuse(state);
     }
-    pack(state, hang_up(state_of(state), settings_of(settings)))
+    pack(hang_up(control_of(state), settings_of(settings), pending))
 }
 
-// What a step answers: a refusal leaves the record.
-fn pack(state: CentralState, stepped: Stepped) -> CentralStepped
-    ensures { λ r. ⌜ r ≡ packed state (writtenAs (stepped .outcome)) (stepped .state) ⌝ }
+// What a step answers, in numbers.
+fn pack(moved: Moved) -> CentralStepped
+    ensures { λ r. ⌜ r ≡ packed (writtenAs (moved .outcome)) (moved .control) ⌝ }
 {
-    let outcome = stepped.outcome;
-    let after = stepped.state;
-    match outcome {
-        Written::Count(_) => CentralStepped {
-            answer: of_written(outcome),
-            state: record_of(after),
-        },
-        Written::Refused(refusal) => refuse(state, refusal),
+    let outcome = moved.outcome;
+    let control = moved.control;
+    CentralStepped {
+        answer: of_written(outcome),
+        state: record_of(control),
     }
 }
 
-fn refuse(state: CentralState, refusal: Refusal) -> CentralStepped
-    ensures { λ r. ⌜ r ≡ refusing state (refusalNumber refusal) ⌝ }
+// The record has no stage.
+fn refuse(state: CentralState) -> CentralStepped
+    ensures { λ r. ⌜ r ≡ refusing state 9 ⌝ }
 {
     CentralStepped {
-        answer: of_refusal(refusal),
+        answer: of_refusal(Refusal::Range),
         state,
     }
 }
@@ -136,33 +135,29 @@ pub(crate) fn settings_of(settings: CentralSettings) -> Settings
     }
 }
 
-// The state that a record is.
-fn state_of(state: CentralState) -> State
-    ensures { λ r. ⌜ r ≡ stateOf state ⌝ }
+// The control that a record is.
+fn control_of(state: CentralState) -> Control
+    ensures { λ r. ⌜ r ≡ controlOf state ⌝ }
 {
     let stage = stage_of(state.stage);
-    let pending = state.pending;
-    State {
+    Control {
         stage,
         failures: state.failures,
-        pending,
         length: state.length,
         journal: state.journal,
     }
 }
 
-// The record of a state.
-fn record_of(state: State) -> CentralState
-    ensures { λ r. ⌜ r ≡ recordOf state ⌝ }
+// The record of a control.
+fn record_of(control: Control) -> CentralState
+    ensures { λ r. ⌜ r ≡ recordOf control ⌝ }
 {
-    let stage = state.stage;
-    let pending = state.pending;
+    let stage = control.stage;
     CentralState {
         stage: stage_number(stage),
-        failures: state.failures,
-        pending,
-        length: state.length,
-        journal: state.journal,
+        failures: control.failures,
+        length: control.length,
+        journal: control.journal,
     }
 }
 

@@ -8,13 +8,12 @@ use borrow.Author.Tests.{eq-eqb, ne-eqb}
 use lib.ListN.{length, take, replicate, length-map, drop-of-length-le}
 use Rattle.line.proofs.OutcomeLaws.{map-refused}
 use Rattle.line.proofs.OverlayLaws.{overlay-none, overlay-start}
-use Rattle.line.specs.Answer.{Outcome, done, refused, output, overlay, refusalNumber}
+use Rattle.line.specs.Answer.{Outcome, done, refused, countOf, output, overlay, refusalNumber, writtenAs}
 use Rattle.line.specs.declared.answer.Refusal.{Refusal}
-use Rattle.line.specs.declared.answer.Written.the-variants.{Count}
 use Rattle.journal.proofs.EncodingLaws.{decode-legal}
 use Rattle.journal.specs.Storage.{decodeIn, storedIn}
-use Rattle.central.specs.Step as CentralStep
-use Rattle.central.specs.declared.state.State as CentralState
+use Rattle.central.specs.Lent.{stateOf, startIn}
+use Rattle.central.specs.declared.state.Control.{Control}
 use Rattle.device.proofs.StepLaws.{settings-parts}
 use Rattle.device.specs.Reaction.{verdictNumber}
 use Rattle.device.specs.Step as DeviceStep
@@ -49,20 +48,21 @@ module _ {s : Setup} (sound : Sound s) where
 
 -- the ends stand as a run starts
 pub begins : {s : Setup} {buffer : List ℕ} {n : ℕ} {verdicts verdicts′ : List ℕ} → Ready s buffer n verdicts →
-    {r : DeviceStepped.Stepped} {central : CentralState.State} {memory memory′ : List ℕ} (count : ℕ) →
-    DeviceStep.Steps (done (opening s)) Stopped r memory memory′ → r .outcome ≡ Count count → central ≡ CentralStep.startOf n →
-    verdicts′ ≡ map verdictNumber (replicate (length verdicts) Unsent) → length memory′ ≡ 256 →
-    Begins s (record { device = r .state; central = central; count = count }) buffer memory′ verdicts′
-begins {s} {buffer} {n} {verdicts} {verdicts′} ready {r} {central} {memory} {memory′} count steps told e numbers wide =
-    let long = count-told count told (steps .answers) in
+    {r : DeviceStepped.Stepped} {central : Control} {pending memory memory′ : List ℕ} (count : ℕ) →
+    DeviceStep.Steps (done (opening s)) Stopped r memory memory′ → count ≡ countOf (writtenAs (r .outcome)) → central ≡ startIn n →
+    verdicts′ ≡ map verdictNumber (replicate (length verdicts) Unsent) → length pending ≡ 2000 → length memory′ ≡ 256 →
+    Begins s (record { device = r .state; central = central; count = count }) buffer pending memory′ verdicts′
+begins {s} {buffer} {n} {verdicts} {verdicts′} ready {r} {central} {pending} {memory} {memory′} count steps told e numbers sized wide =
+    let long = count-told told (steps .answers) in
     let put : take count memory′ ≡ opening s .string = rw (steps .leaves) (overlay-start (opening s .string) memory count (sym long)) in
-    let at : Step → Kept = λ step. record { device = record { step = step }; central = CentralStep.startOf n; buffer = buffer; string = opening s .string } in
-    let kept : starting s buffer n ≡ keptIn (record { device = r .state; central = CentralStep.startOf n; count = count }) buffer memory′ =
+    let at : Step → Kept = λ step. record { device = record { step = step }; central = stateOf (startIn n) pending; buffer = buffer; string = opening s .string } in
+    let kept : starting s pending buffer n ≡ keptIn (record { device = r .state; central = startIn n; count = count }) buffer pending memory′ =
     rw put (ap at (sym (steps .state))) in
-    subst (λ c. Begins s (record { device = r .state; central = c; count = count }) buffer memory′ verdicts′) (sym e)
+    subst (λ c. Begins s (record { device = r .state; central = c; count = count }) buffer pending memory′ verdicts′) (sym e)
     (record {
       sound = ready .sound;
-      holds = subst (Holds s (start (inputsIn s buffer n))) kept (starts s buffer n (output (decodeIn buffer n)) (ready .read));
+      holds = subst (Holds s (start (inputsIn s buffer n))) kept (starts s pending buffer n (output (decodeIn buffer n)) (ready .read));
+      sized = sized;
       inside = told-inside (opening s .string) memory count long (steps .leaves);
       wide = wide;
       numbers = rw (← ready .one-each) numbers;

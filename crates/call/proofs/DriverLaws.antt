@@ -37,9 +37,9 @@ unfolding DeviceStep.started DeviceStep.tested
 started-done sound room h = rw (sound-ranged sound .0, le-ltb room 256 h, sound .read)
 
 -- what a driver keeps before the first transmission is the start of a run
-pub starts : (s : Setup) (buffer : List ℕ) (n : ℕ) (journal : Transactions) → decodeIn buffer n ≡ done journal → Holds s (start (inputsFrom s journal)) (starting s buffer n)
+pub starts : (s : Setup) (array buffer : List ℕ) (n : ℕ) (journal : Transactions) → decodeIn buffer n ≡ done journal → Holds s (start (inputsFrom s journal)) (starting s array buffer n)
 unfolding all
-starts s buffer n journal read = record { step = refl; ranged = refl; there = refl; central = refl; state = refl; read = read; put = refl }
+starts s array buffer n journal read = record { step = refl; ranged = refl; there = refl; central = refl; state = refl; read = read; put = refl }
 
 -- what a driver keeps is these ends of a run that starts with this journal, and the line has this damage for the next transmission
 module _ {s : Setup} (sound : Sound s) (first : Transactions) (d : Transit) {e : Ends Transactions} {k : Kept} (holds : Holds s e k) where

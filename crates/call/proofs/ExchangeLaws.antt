@@ -6,16 +6,15 @@ use Prim.Native.Nat.{ℕ, _≤_, _/_, _%_}
 use native.Mathlib.Omega.{arith}
 use lib.ListN.{length, take, length-append}
 use Rattle.line.proofs.OverlayLaws.{overlay-start}
-use Rattle.line.specs.Answer.{done, overlay, writtenAs}
+use Rattle.line.specs.Answer.{Outcome, done, countOf, overlay, writtenAs}
 use Rattle.line.specs.Character.{byte}
 use Rattle.line.specs.Test.{all}
-use Rattle.line.specs.declared.answer.Written.{Written}
-use Rattle.line.specs.declared.answer.Written.the-variants.{Count, Refused}
-use Rattle.line.specs.declared.answer.Refusal.{Refusal}
 use Rattle.journal.specs.Storage.{storedIn}
 use Rattle.central.specs.Reaction.{Reaction, answerBytes}
+use Rattle.central.proofs.StepLaws.{stepped-sized}
+use Rattle.central.specs.Lent.{stateOf, steppedIn, wholeOf}
 use Rattle.central.specs.Step as CentralStep
-use Rattle.central.specs.declared.state.Stepped as CentralStepped
+use Rattle.central.specs.declared.state.Moved.{Moved}
 use Rattle.device.specs.Reaction.{verdictNumber}
 use Rattle.device.specs.Step as DeviceStep
 use Rattle.device.specs.declared.state.Step.{Step}
@@ -28,15 +27,9 @@ use Rattle.call.specs.Inner.{Exchanged, Underway, arrives, keptIn}
 use Rattle.call.specs.declared.exchange.Saved.{Saved}
 use Rattle.call.proofs.DriverLaws.{central-done, device-done, driven}
 
--- what was counted has this length
-pub count-told : {w : Written} {m : ℕ} (n : ℕ) → w ≡ Count n → writtenAs w ≡ done m → n ≡ m
-count-told n e h = cc (ap writtenAs e, h)
-
--- what was counted was not refused
-pub not-refused : {A : Type 0} {w : Written} {m : ℕ} (r : Refusal) → w ≡ Refused r → writtenAs w ≡ done m → A
-not-refused r e h =
-    let never : _≡_ {A = ℕ} 0 1 = cc (ap writtenAs e, h) in
-    absurd (omega arith)
+-- what was done and is counted has this length
+pub count-told : {o : Outcome ℕ} {n m : ℕ} → n ≡ countOf o → o ≡ done m → n ≡ m
+count-told e h = e ∙ ap countOf h
 
 -- so many bytes as were counted lie at the start of the memory
 pub told-inside : (bytes before : List ℕ) {after : List ℕ} (n : ℕ) → n ≡ length bytes → after ≡ overlay bytes before → n ≤ length after
@@ -44,7 +37,7 @@ unfolding overlay
 told-inside bytes before n e laid = rw (laid, length-append) (omega arith)
 
 -- a run that is underway, and the fault of the next transmission
-module _ {s : Setup} {saved : Saved} {buffer memory verdicts : List ℕ} (u : Underway s saved buffer memory verdicts) (fault : ℕ) where
+module _ {s : Setup} {saved : Saved} {buffer pending memory verdicts : List ℕ} (u : Underway s saved buffer pending memory verdicts) (fault : ℕ) where
   -- the inputs of the run
   abbrev i : Inputs Transactions
   i = inputsFrom s (u .first)
@@ -55,7 +48,7 @@ module _ {s : Setup} {saved : Saved} {buffer memory verdicts : List ℕ} (u : Un
 
   -- what is kept
   abbrev kept : Kept
-  kept = keptIn saved buffer memory
+  kept = keptIn saved buffer pending memory
 
   -- what the central does
   abbrev reaction : Reaction Transactions
@@ -74,24 +67,29 @@ module _ {s : Setup} {saved : Saved} {buffer memory verdicts : List ℕ} (u : Un
   arrives-damaged = rw (u .stands .holds .put)
 
   -- the central has stepped
-  module _ {reacted : CentralStepped.Stepped} {buffer′ out out′ : List ℕ}
-      (hears : CentralStep.Steps (CentralStep.stepped (saved .central) (s .central) (s .pagers) buffer heard (length out)) (saved .central) reacted buffer buffer′ out out′)
+  module _ {reacted : Moved} {buffer′ pending′ out out′ : List ℕ}
+      (hears : CentralStep.Steps (steppedIn (saved .central) pending (s .central) (s .pagers) buffer heard (length out)) (stateOf (saved .central) pending) (wholeOf reacted pending′) buffer buffer′ out out′)
       (room : 7 ≤ length out) where
+    -- its step is not refused
+    central-made : steppedIn (saved .central) pending (s .central) (s .pagers) buffer heard (length out) ≡ done reaction
+    central-made =
+        stepped-sized (saved .central) (s .central) (s .pagers) pending buffer heard (length out) (u .stands .sized)
+        ∙ rw arrives-damaged (central-done (u .stands .sound) (u .first) damage (u .stands .holds) (length out) room)
+
     -- what it leaves
-    pub central-steps : CentralStep.Steps (done reaction) (saved .central) reacted buffer buffer′ out out′
+    pub central-steps : CentralStep.Steps (done reaction) (stateOf (saved .central) pending) (wholeOf reacted pending′) buffer buffer′ out out′
     central-steps =
-        let made = central-done (u .stands .sound) (u .first) damage (u .stands .holds) (length out) room in
-        subst (λ o. CentralStep.Steps o (saved .central) reacted buffer buffer′ out out′) (rw arrives-damaged made) hears
+        subst (λ o. CentralStep.Steps o (stateOf (saved .central) pending) (wholeOf reacted pending′) buffer buffer′ out out′) central-made hears
 
     -- its answer has been counted
-    module _ (n : ℕ) (answers : reacted .outcome ≡ Count n) where
+    module _ (n : ℕ) (answers : n ≡ countOf (writtenAs (reacted .outcome))) where
       -- it lies at the start of the output
       pub answer-inside : n ≤ length out′
-      answer-inside = told-inside (answerBytes (reaction .answer)) out n (count-told n answers (central-steps .answers)) (central-steps .leaves)
+      answer-inside = told-inside (answerBytes (reaction .answer)) out n (count-told answers (central-steps .answers)) (central-steps .leaves)
 
       -- and is the run's
       answer-put : take n out′ ≡ answer i (damage .out) (u .ends)
-      answer-put = rw (central-steps .leaves) (overlay-start (answerBytes (reaction .answer)) out n (sym (count-told n answers (central-steps .answers))))
+      answer-put = rw (central-steps .leaves) (overlay-start (answerBytes (reaction .answer)) out n (sym (count-told answers (central-steps .answers))))
 
       -- the device has stepped
       module _ {moved : DeviceStepped.Stepped} {before memory′ : List ℕ}
@@ -106,30 +104,31 @@ module _ {s : Setup} {saved : Saved} {buffer memory verdicts : List ℕ} (u : Un
         device-steps = subst (λ o. DeviceStep.Steps o (saved .device .step) moved before memory′) device-made reads
 
         -- both steps made the exchange
-        pub exchanged : {verdicts′ : List ℕ} (next : ℕ) → moved .outcome ≡ Count next → verdicts′ ≡ map verdictNumber (noted (moved .given) (u .ends .verdicts)) →
-            length memory′ ≡ length before → all byte buffer ≡ true →
-            Exchanged s i fault (u .ends) (record { device = moved .state; central = reacted .state; count = next }) buffer buffer′ memory′ verdicts′
+        pub exchanged : {verdicts′ : List ℕ} (next : ℕ) → next ≡ countOf (writtenAs (moved .outcome)) → verdicts′ ≡ map verdictNumber (noted (moved .given) (u .ends .verdicts)) →
+            length pending′ ≡ length pending → length memory′ ≡ length before → all byte buffer ≡ true →
+            Exchanged s i fault (u .ends) (record { device = moved .state; central = reacted .control; count = next }) buffer buffer′ pending′ memory′ verdicts′
         unfolding exchange
-        exchanged next told numbers same bytes =
+        exchanged next told numbers long-as same bytes =
             let central = central-steps in
             let device = device-steps in
-            let long = count-told next told (device .answers) in
+            let long = count-told told (device .answers) in
             let put : take next memory′ ≡ sending .string = rw (device .leaves) (overlay-start (sending .string) before next (sym long)) in
             let hears′ = central-done (u .stands .sound) (u .first) damage (u .stands .holds) 256 (omega arith) in
             let reads′ = device-done (u .stands .sound) (u .first) damage (u .stands .holds) 256 (omega arith) in
             let made = driven (u .stands .sound) (u .first) damage (u .stands .holds) 256 256 bytes hears′ reads′ in
             let at : Step → Kept = λ step. record {
               device = record { step = step };
-              central = CentralStep.savedAs reaction (saved .central .pending);
+              central = CentralStep.savedAs reaction pending;
               buffer = storedIn (done (reaction .next .journal)) buffer;
               string = sending .string;
             } in
-            let kept′ : behind kept reaction sending ≡ keptIn (record { device = moved .state; central = reacted .state; count = next }) buffer′ memory′ =
+            let kept′ : behind kept reaction sending ≡ keptIn (record { device = moved .state; central = reacted .control; count = next }) buffer′ pending′ memory′ =
             rw (central .state, central .stored, put) (ap at (sym (device .state))) in
             record {
               stands = record {
                 sound = u .stands .sound;
                 holds = subst (Holds s (exchange i damage (u .ends))) kept′ (made .holds);
+                sized = long-as ∙ u .stands .sized;
                 inside = told-inside (sending .string) before next long (device .leaves);
                 wide = same ∙ wide;
                 numbers = rw (device .gave) at numbers;

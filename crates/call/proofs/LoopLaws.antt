@@ -132,9 +132,9 @@ drop-next (x ∷ xs) (suc n) = drop-next xs n
 
 -- after t transmissions of a run that started with this journal in this buffer: both ends as they stand, what is left of the run from them on,
 -- and the buffer is the first one with their journal stored
-pub record Going (s : Setup) (first : Transactions) (faults buffer₀ : List ℕ) (saved : Saved) (t : ℕ) (buffer memory verdicts : List ℕ) : Type 0 where
+pub record Going (s : Setup) (first : Transactions) (faults buffer₀ : List ℕ) (saved : Saved) (t : ℕ) (buffer pending memory verdicts : List ℕ) : Type 0 where
   pub ends : Ends Transactions
-  pub stands : Stands s ends saved buffer memory verdicts
+  pub stands : Stands s ends saved buffer pending memory verdicts
   pub counts : ends .transmissions ≡ t
   pub fuel : ℕ
   pub comes : let i = inputsFrom s first in final i (faulted i faults) ≡ after i fuel (damagesFrom i (drop t faults) ends) ends
@@ -150,7 +150,7 @@ module _ (s : Setup) (first : Transactions) where
 
   module _ {faults buffer₀ : List ℕ} {saved : Saved} where
     -- it begins
-    pub going-begins : {memory verdicts : List ℕ} → Stands s (start i) saved buffer₀ memory verdicts → all byte buffer₀ ≡ true → Going s first faults buffer₀ saved 0 buffer₀ memory verdicts
+    pub going-begins : {pending memory verdicts : List ℕ} → Stands s (start i) saved buffer₀ pending memory verdicts → all byte buffer₀ ≡ true → Going s first faults buffer₀ saved 0 buffer₀ pending memory verdicts
     going-begins stands bytes =
         let h = stands .holds in
         record {
@@ -165,11 +165,11 @@ module _ (s : Setup) (first : Transactions) where
         }
 
     -- so a run is underway
-    abbrev pub underway : {t : ℕ} {buffer memory verdicts : List ℕ} → Going s first faults buffer₀ saved t buffer memory verdicts → Underway s saved buffer memory verdicts
+    abbrev pub underway : {t : ℕ} {buffer pending memory verdicts : List ℕ} → Going s first faults buffer₀ saved t buffer pending memory verdicts → Underway s saved buffer pending memory verdicts
     underway g = record { first = first; ends = g .ends; stands = g .stands }
 
     -- after t transmissions
-    module _ {t : ℕ} {buffer memory verdicts : List ℕ} (g : Going s first faults buffer₀ saved t buffer memory verdicts) where
+    module _ {t : ℕ} {buffer pending memory verdicts : List ℕ} (g : Going s first faults buffer₀ saved t buffer pending memory verdicts) where
       -- the length of the device's string
       string-long : length (string i (g .ends)) ≡ saved .count
       string-long = sym (ap length (g .stands .holds .put)) ∙ length-take-le (saved .count) memory (g .stands .inside)
@@ -192,10 +192,10 @@ module _ (s : Setup) (first : Transactions) where
       next = exchange i (damages i (getD faults t 0) (g .ends)) (g .ends)
 
       -- one transmission more
-      module _ (some : 0 < saved .count) {fault : ℕ} (told : fault ≡ getD faults t 0) {saved′ : Saved} {buffer′ memory′ verdicts′ : List ℕ}
-          (made : Exchanged s i fault (g .ends) saved′ buffer buffer′ memory′ verdicts′) where
+      module _ (some : 0 < saved .count) {fault : ℕ} (told : fault ≡ getD faults t 0) {saved′ : Saved} {buffer′ pending′ memory′ verdicts′ : List ℕ}
+          (made : Exchanged s i fault (g .ends) saved′ buffer buffer′ pending′ memory′ verdicts′) where
         -- its fault is the next
-        x : Exchanged s i (getD faults t 0) (g .ends) saved′ buffer buffer′ memory′ verdicts′
+        x : Exchanged s i (getD faults t 0) (g .ends) saved′ buffer buffer′ pending′ memory′ verdicts′
         x = rw told at made
 
         -- it leaves fewer to make
@@ -220,10 +220,10 @@ module _ (s : Setup) (first : Transactions) where
         next-counts = rw (g .counts, counts-one (string i (g .ends)) (omega (arith, string-long)))
 
         -- and goes on
-        pub going-on : Going s first faults buffer₀ saved′ (t + 1) buffer′ memory′ verdicts′
+        pub going-on : Going s first faults buffer₀ saved′ (t + 1) buffer′ pending′ memory′ verdicts′
         going-on = go (g .fuel) refl
           where
-            go : (m : ℕ) → g .fuel ≡ m → Going s first faults buffer₀ saved′ (t + 1) buffer′ memory′ verdicts′
+            go : (m : ℕ) → g .fuel ≡ m → Going s first faults buffer₀ saved′ (t + 1) buffer′ pending′ memory′ verdicts′
             go zero e = absurd (omega (arith, going-less, g .left))
             go (suc m) e =
                 let here : getD (drop t faults) 0 0 ≡ getD faults t 0 = getD-drop t faults 0 0 ∙ ap (λ n. getD faults n 0) (add-zero t) in

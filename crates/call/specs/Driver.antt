@@ -8,6 +8,7 @@ use Rattle.line.specs.Answer.{Outcome, done, output}
 use Rattle.journal.specs.Storage.{decodeIn, storedIn}
 use Rattle.journal.specs.Walk.{decode}
 use Rattle.central.specs.Reaction.{Reaction, answerBytes}
+use Rattle.central.specs.Lent.{stateOf, startIn}
 use Rattle.central.specs.Step as CentralStep
 use Rattle.central.specs.declared.state.State as CentralState
 use Rattle.device.specs.Reaction.{first, goes, stringBytes}
@@ -60,13 +61,13 @@ pub record Holds (s : Setup) (e : Ends Transactions) (k : Kept) : Type 0 where
 abbrev pub opening : Setup → DeviceStep.Sent
 opening s = DeviceStep.sent (s .device) (jobOf s) (goes (Opening first))
 
--- what is kept before the first transmission: the device started, the central before its first call, a journal of n bytes
--- (R-10.10)
-abbrev pub starting : Setup → List ℕ → ℕ → Kept
-starting s buffer n =
+-- what is kept before the first transmission: the device started, the central before its first call, whatever its array holds,
+-- and a journal of n bytes (R-10.10)
+abbrev pub starting : Setup → List ℕ → List ℕ → ℕ → Kept
+starting s array buffer n =
     record {
       device = record { step = opening s .move .next };
-      central = CentralStep.startOf n;
+      central = stateOf (startIn n) array;
       buffer = buffer;
       string = opening s .string;
     }

@@ -5,6 +5,7 @@ use Prim.Native.Nat.{ℕ, _≤_}
 use lib.ListN.{length, take}
 use Rattle.line.specs.Answer.{done, output}
 use Rattle.journal.specs.Storage.{decodeIn, sizeOf, storedIn}
+use Rattle.central.specs.Lent.{stateOf}
 use Rattle.device.specs.Reaction.{verdictNumber}
 use Rattle.demand.specs.Faults.{damage, damages, faulted}
 use Rattle.demand.specs.Run.{hit, Inputs, Ends, start, exchange, final}
@@ -26,38 +27,40 @@ pub record Arrives (part : ℕ) (bytes : List ℕ) (n : ℕ) (memory : List ℕ)
 
 -- ── Both ends in the run's memory ──
 
--- what a run keeps: the saved states, the journal's buffer, and the string at the start of the device's memory
-abbrev pub keptIn : Saved → List ℕ → List ℕ → Kept
-keptIn saved buffer memory =
-    record { device = saved .device; central = saved .central; buffer = buffer; string = take (saved .count) memory }
+-- what a run keeps: the saved states, the central's with its unfinished information, the journal's buffer, and the string at
+-- the start of the device's memory
+abbrev pub keptIn : Saved → List ℕ → List ℕ → List ℕ → Kept
+keptIn saved buffer pending memory =
+    record { device = saved .device; central = stateOf (saved .central) pending; buffer = buffer; string = take (saved .count) memory }
 
 -- the saved states and the memory hold these ends of a run of the setup
-pub record Stands (s : Setup) (e : Ends Transactions) (saved : Saved) (buffer memory verdicts : List ℕ) : Type 0 where
+pub record Stands (s : Setup) (e : Ends Transactions) (saved : Saved) (buffer pending memory verdicts : List ℕ) : Type 0 where
   pub sound : Sound s
-  pub holds : Holds s e (keptIn saved buffer memory)
+  pub holds : Holds s e (keptIn saved buffer pending memory)
+  pub sized : length pending ≡ 2000
   pub inside : saved .count ≤ length memory
   pub wide : length memory ≡ 256
   pub numbers : verdicts ≡ map verdictNumber (e .verdicts)
 
 -- a run of the setup is underway: its starting journal, and both ends as they stand
-pub record Underway (s : Setup) (saved : Saved) (buffer memory verdicts : List ℕ) : Type 0 where
+pub record Underway (s : Setup) (saved : Saved) (buffer pending memory verdicts : List ℕ) : Type 0 where
   pub first : Transactions
   pub ends : Ends Transactions
-  pub stands : Stands s ends saved buffer memory verdicts
+  pub stands : Stands s ends saved buffer pending memory verdicts
 
 -- ── One transmission ──
 
 -- what a transmission with this fault owes: the ends behind it stand, and their journal is in the buffer
 pub record Exchanged (s : Setup) (i : Inputs Transactions) (fault : ℕ) (e : Ends Transactions) (r : Saved)
-    (buffer buffer′ memory′ verdicts′ : List ℕ) : Type 0 where
-  pub stands : Stands s (exchange i (damages i fault e) e) r buffer′ memory′ verdicts′
+    (buffer buffer′ pending′ memory′ verdicts′ : List ℕ) : Type 0 where
+  pub stands : Stands s (exchange i (damages i fault e) e) r buffer′ pending′ memory′ verdicts′
   pub stored : buffer′ ≡ storedIn (done (exchange i (damages i fault e) e .central .journal)) buffer
 
 -- the same of every run that is underway so
-abbrev pub Exchanges : Setup → ℕ → Saved → Saved → List ℕ → List ℕ → List ℕ → List ℕ → List ℕ → List ℕ → Type 0
-Exchanges s fault saved r buffer buffer′ memory memory′ verdicts verdicts′ =
-    (u : Underway s saved buffer memory verdicts) →
-    Exchanged s (inputsFrom s (u .first)) fault (u .ends) r buffer buffer′ memory′ verdicts′
+abbrev pub Exchanges : Setup → ℕ → Saved → Saved → List ℕ → List ℕ → List ℕ → List ℕ → List ℕ → List ℕ → List ℕ → List ℕ → Type 0
+Exchanges s fault saved r buffer buffer′ pending pending′ memory memory′ verdicts verdicts′ =
+    (u : Underway s saved buffer pending memory verdicts) →
+    Exchanged s (inputsFrom s (u .first)) fault (u .ends) r buffer buffer′ pending′ memory′ verdicts′
 
 -- ── The run ──
 
@@ -72,9 +75,9 @@ pub record Ready (s : Setup) (buffer : List ℕ) (n : ℕ) (verdicts : List ℕ)
   pub one-each : length verdicts ≡ length (jobOf s)
 
 -- the ends stand as a run starts
-abbrev pub Begins : Setup → Saved → List ℕ → List ℕ → List ℕ → Type 0
-Begins s saved buffer memory verdicts =
-    Stands s (start (inputsIn s buffer (saved .central .journal))) saved buffer memory verdicts
+abbrev pub Begins : Setup → Saved → List ℕ → List ℕ → List ℕ → List ℕ → Type 0
+Begins s saved buffer pending memory verdicts =
+    Stands s (start (inputsIn s buffer (saved .central .journal))) saved buffer pending memory verdicts
 
 -- both ends once a run over the faults has come to its end
 abbrev pub endsOf : Setup → List ℕ → ℕ → List ℕ → Ends Transactions

@@ -1,15 +1,16 @@
 // One transmission: a string of the device over the line, and the central's answer.
 use crate::fault::arrive;
+use central::lent::step as step_central;
 use central::step::ANSWER;
-use central::step::step as step_central;
 use device::Given;
 use device::state::verdict_number;
 use device::step::step as step_device;
-use line::Written;
+use line::answer::count;
 ghost use mathlib.Core.List.{List, map};
 ghost use mathlib.Core.Path.{_≡_};
 ghost use Prim.Native.Nat.{_≤_};
 ghost use lib.ListN.{length, take};
+ghost use Rattle.central.specs.Lent.{stateOf, steppedIn, wholeOf};
 ghost use Rattle.central.specs.Step as CentralStep;
 ghost use Rattle.device.specs.Reaction.{verdictNumber};
 ghost use Rattle.device.specs.Step as DeviceStep;
@@ -18,15 +19,16 @@ ghost use Rattle.demand.specs.Run.{noted};
 ghost use Rattle.call.specs.Call.{setup};
 ghost use Rattle.call.specs.Inner.{Exchanges, Underway, arrives};
 
-// Both ends between two transmissions, and the length of the string that the device has put out.
+// Both ends between two transmissions, the central's unfinished information aside, and the length of the
+// string that the device has put out.
 pub struct Saved {
     pub device: device::State,
-    pub central: central::State,
+    pub central: central::Control,
     pub count: usize,
 }
 
 // The string at the start of the memory is sent, and answered: both ends behind it. The fault is 3
-// times the string's part plus the answer's.
+// times the string's part plus the answer's. Neither end refuses its step.
 pub(crate) fn exchange(
     ends: Saved,
     fault: u8,
@@ -35,15 +37,18 @@ pub(crate) fn exchange(
     central: central::Settings,
     pagers: &[u32],
     journal: &mut [u8],
+    pending: &mut [u8],
     memory: &mut [u8],
     verdicts: &mut [u8],
 ) -> Saved
     requires { ⌜
-        Underway (setup device central (now pagers) (now job)) ends (now journal) (now memory) (now verdicts)
+        Underway (setup device central (now pagers) (now job)) ends
+        (now journal) (now pending) (now memory) (now verdicts)
         ⌝ }
     ensures { λ r. ⌜
         Exchanges (setup device central (now (pagers .entry)) (now (job .entry))) fault ends r
         (now (journal .entry)) (now (journal .exit))
+        (now (pending .entry)) (now (pending .exit))
         (now (memory .entry)) (now (memory .exit))
         (now (verdicts .entry)) (now (verdicts .exit))
         ⌝ }
@@ -54,55 +59,67 @@ pub(crate) fn exchange(
         central,
         pagers,
         journal,
+        pending,
         fault / 3,
         ends.count,
         memory,
         &mut answer,
     );
-    let outcome = reacted.outcome;
-    let Written::Count(length) = outcome else {
-        return ends;
-    };
+    let answered = reacted.outcome;
     let state = ends.device;
-    let moved = read(state, device, job, fault % 3, length, &mut answer, memory);
-    let put = moved.outcome;
-    let Written::Count(next) = put else {
-        return ends;
-    };
+    let moved = read(
+        state,
+        device,
+        job,
+        fault % 3,
+        count(answered),
+        &mut answer,
+        memory,
+    );
     let given = moved.given;
     note(given, verdicts);
     let device = moved.state;
-    let central = reacted.state;
+    let central = reacted.control;
+    let put = moved.outcome;
     Saved {
         device,
         central,
-        count: next,
+        count: count(put),
     }
 }
 
 // The central's step over what arrives of the string of this length at the start of the memory.
 fn hear(
-    state: central::State,
+    control: central::Control,
     settings: central::Settings,
     pagers: &[u32],
     journal: &mut [u8],
+    pending: &mut [u8],
     part: u8,
     count: usize,
     memory: &mut [u8],
     answer: &mut [u8],
-) -> central::Stepped
+) -> central::Moved
     requires { ⌜ count ≤ length (now memory) ⌝ }
     ensures { λ r. ⌜
         CentralStep.Steps
-        (CentralStep.stepped state settings (now (pagers .entry)) (now (journal .entry))
+        (steppedIn control (now (pending .entry)) settings (now (pagers .entry)) (now (journal .entry))
         (arrives part (take count (now (memory .entry)))) (length (now (answer .entry))))
-        state r
+        (stateOf control (now (pending .entry))) (wholeOf r (now (pending .exit)))
         (now (journal .entry)) (now (journal .exit))
         (now (answer .entry)) (now (answer .exit))
         ⌝ }
 {
     let heard = arrive(part, count, memory);
-    step_central(state, settings, pagers, journal, &memory[..heard], answer)
+    step_central(
+        control,
+        settings,
+        pagers,
+        journal,
+        pending,
+        &memory[..heard],
+        answer,
+    )
 }
 
 // The device's step over what arrives of the answer of this length: it puts its next string in the

@@ -3,13 +3,14 @@ use crate::exchange::Saved;
 use crate::exchange::exchange;
 use crate::fault::fault_at;
 use crate::range::test;
-use central::step::start as start_central;
+use central::lent::start as start_central;
 use device::Verdict;
 use device::state::verdict_number;
 use device::step::start as start_device;
 use line::Checked;
 use line::Refusal;
-use line::Written;
+use line::answer::count;
+use line::transaction::MOST_INFORMATION;
 ghost use mathlib.Core.List.{map};
 ghost use mathlib.Core.Path.{_≡_};
 ghost use lib.ListN as ListN;
@@ -73,8 +74,8 @@ pub fn run(
     }
 }
 
-// The run, once it may begin: the device at its first string, the central at Idle, every verdict
-// unsent.
+// The run, once it may begin: the device at its first string, which is not refused, the central at
+// Idle, every verdict unsent.
 fn begin(
     job: &[u8],
     device: device::Settings,
@@ -94,20 +95,15 @@ fn begin(
         ⌝ }
 {
     clear(verdicts);
+    let mut pending = [0u8; MOST_INFORMATION];
     let mut memory = [0u8; 256];
     let started = start_device(device, job, &mut memory);
     let outcome = started.outcome;
-    let Written::Count(count) = outcome else {
-        return Totals {
-            transmissions: 0,
-            journal: length,
-        };
-    };
     let state = started.state;
     let first = Saved {
         device: state,
         central: start_central(length),
-        count,
+        count: count(outcome),
     };
     play(
         first,
@@ -117,6 +113,7 @@ fn begin(
         pagers,
         journal,
         faults,
+        &mut pending,
         &mut memory,
         verdicts,
     )
@@ -145,11 +142,13 @@ fn play(
     pagers: &[u32],
     journal: &mut [u8],
     faults: &[u8],
+    pending: &mut [u8],
     memory: &mut [u8],
     verdicts: &mut [u8],
 ) -> Totals
     requires { ⌜
-        Begins (setup device central (now pagers) (now job)) first (now journal) (now memory) (now verdicts)
+        Begins (setup device central (now pagers) (now job)) first
+        (now journal) (now pending) (now memory) (now verdicts)
         ⌝ }
     ensures { λ r. ⌜
         Plays
@@ -170,6 +169,7 @@ fn play(
             central,
             pagers,
             journal,
+            pending,
             memory,
             verdicts,
         );

@@ -10,7 +10,8 @@ use lib.ListN.{length}
 use Rattle.line.specs.Character.{alphanumeric, textual}
 use Rattle.line.specs.Password.{passwordText, passwordInRange}
 use Rattle.line.specs.Test.{all}
-use Rattle.central.specs.Inner.{Readable, Ready, pendingIn, stateOf}
+use Rattle.central.specs.Inner.{Readable, Ready, pendingIn}
+use Rattle.central.specs.Lent.{stateOf}
 use Rattle.central.specs.Step.{settingsInRange, pagersInRange, failuresInRange, lengthInRange, stateInRange}
 use Rattle.central.specs.declared.state.Settings.{Settings}
 use Rattle.central.specs.declared.state.Stage.{Stage}

@@ -3,7 +3,7 @@ use mathlib.Core.Bool.{Bool, true, false, not, _&&_}
 use mathlib.Core.List.{List}
 use mathlib.Core.Path.{_≡_, sym, _∙_}
 use Prim.Native.Nat.{ℕ, _≤_, _<_}
-use borrow.Author.Tests.{lt-ltb, le-ltb, ltb-false, not-false}
+use borrow.Author.Tests.{lt-ltb, le-ltb, ltb-false, not-false, eq-eqb, ne-eqb}
 use lib.Dec.{ltb}
 use lib.ListN.{length}
 use Rattle.line.proofs.OutcomeLaws.{map-done, passed}
@@ -12,7 +12,8 @@ use Rattle.line.specs.Answer.{Outcome, done, refused, mapDone, writtenAs, Wrote
 use Rattle.line.specs.declared.answer.Written.{Written}
 use Rattle.journal.specs.Storage.{decodeIn, storedIn}
 use Rattle.central.specs.Hearing.{heard}
-use Rattle.central.specs.Inner.{Readable, Stores, answerOf, reactsIn, stateOf, transactionsIn}
+use Rattle.central.specs.Inner.{Readable, Stores, answerOf, reactsIn, transactionsIn}
+use Rattle.central.specs.Lent.{stateOf, steppedIn}
 use Rattle.central.specs.Reaction.{Reaction, answerBytes}
 use Rattle.central.specs.Step.{Steps, pagersInRange, settingsInRange, stateInRange, tested, stepped}
 use Rattle.central.specs.declared.reaction.Reacted.{Reacted}
@@ -71,6 +72,18 @@ pub stepped-done : (k : Control) (settings : Settings) (pagers array buffer stri
     stepped (stateOf k array) settings pagers buffer string room ≡ done (reactsIn settings pagers k array buffer (k .stage) (heard (k .stage) string))
 unfolding stepped
 stepped-done k settings pagers array buffer string room e = rw e
+
+-- a step over lent memory, of its size and of another
+module _ (k : Control) (settings : Settings) (pagers array buffer string : List ℕ) (room : ℕ) where
+  -- is the step of the state
+  pub stepped-sized : length array ≡ 2000 → steppedIn k array settings pagers buffer string room ≡ stepped (stateOf k array) settings pagers buffer string room
+  unfolding steppedIn
+  stepped-sized h = rw (eq-eqb _ 2000 h)
+
+  -- is refused
+  pub stepped-other : (length array ≡ 2000 → ⊥) → steppedIn k array settings pagers buffer string room ≡ refused 9
+  unfolding steppedIn
+  stepped-other h = rw (ne-eqb _ 2000 h)
 
 -- a refusal leaves the state and all memory
 pub steps-refused : {o : Outcome (Reaction (List (List ℕ)))} (n : ℕ) (s : State) (w : Written) (buffer out : List ℕ) → o ≡ refused n → writtenAs w ≡ refused n →

@@ -1,6 +1,5 @@
 -- What the functions inside a step ask and owe. They work on a saved state in two parts: its control, and the array of
--- unfinished
--- information.
+-- unfinished information.
 use mathlib.Core.Bool.{Bool, true}
 use mathlib.Core.List.{List, _++_}
 use mathlib.Core.Path.{_≡_}
@@ -21,13 +20,8 @@ use Rattle.central.specs.declared.state.Control.{Control}
 use Rattle.central.specs.declared.state.Settings.{Settings}
 use Rattle.central.specs.declared.state.Stage.{Stage}
 use Rattle.central.specs.declared.state.Stage.the-variants.{Block}
-use Rattle.central.specs.declared.state.State.{State}
 
 -- ── A saved state in two parts ──
-
--- the state of both
-abbrev pub stateOf : Control → List ℕ → State
-stateOf k array = record { stage = k .stage; failures = k .failures; pending = array; length = k .length; journal = k .journal }
 
 -- the unfinished information at the start of the array
 abbrev pub pendingIn : Control → List ℕ → List ℕ

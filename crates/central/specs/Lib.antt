@@ -2,4 +2,5 @@ pub mod Hearing
 pub mod Reaction
 pub mod Offer
 pub mod Step
+pub mod Lent
 pub mod Inner

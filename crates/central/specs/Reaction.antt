@@ -93,8 +93,7 @@ module _ {J : Type 0} where
   stores r c t = record { next = at Block [] (r .storage .put (c .journal) t); answer = ack }
 
   -- a block whose information is right, with which the transaction so far is t: refused over L, and at its end unless it is
-  -- admitted;
-  -- else acknowledged, and at its end appended first (R-7.5)
+  -- admitted; else acknowledged, and at its end appended first (R-7.5)
   abbrev pub takes : Rules J → Central J → List ℕ → Bool → Reaction J
   takes r c t goesOn =
       if ltb (r .longest) (length t) then drops c

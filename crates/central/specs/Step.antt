@@ -66,8 +66,7 @@ saved c n array =
 
 -- the tests of a step, in their order, and the transactions of the journal where they pass:
 -- 9 where settings, pager list or state are out of range, 1 where the output is short of 7 or the journal's buffer has the
--- wrong size,
--- 7 where the journal is not well formed (R-7.9)
+-- wrong size, 7 where the journal is not well formed (R-7.9)
 unfoldable pub tested : State → Settings → List ℕ → List ℕ → ℕ → Outcome (List (List ℕ))
 tested s settings pagers buffer room =
     if not (settingsInRange settings && pagersInRange pagers && stateInRange settings s) then refused 9

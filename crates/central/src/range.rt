@@ -12,7 +12,7 @@ ghost use mathlib.Core.Path.{_≡_};
 ghost use Prim.Native.Nat.{_≤_};
 ghost use lib.Dec.{ltb};
 ghost use lib.ListN.{length};
-ghost use Rattle.central.specs.Inner.{stateOf};
+ghost use Rattle.central.specs.Lent.{stateOf};
 ghost use Rattle.central.specs.Step.{failuresInRange, lengthInRange, pagersInRange, settingsInRange, stateInRange};
 
 // The least that the longest transaction may be.

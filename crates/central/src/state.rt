@@ -38,10 +38,16 @@ pub struct Stepped {
     pub state: State,
 }
 
-// A state without the unfinished information itself: that stays where it lies.
+// A state whose unfinished information lies in lent memory, of this length at its start.
 pub struct Control {
     pub stage: Stage,
     pub failures: usize,
     pub length: usize,
     pub journal: usize,
+}
+
+// The same as `Stepped`, beside lent memory.
+pub struct Moved {
+    pub outcome: Written,
+    pub control: Control,
 }

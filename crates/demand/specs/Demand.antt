@@ -105,8 +105,7 @@ abbrev pub shortened : {J : Type 0} → Inputs J → ℕ → Inputs J
 shortened i k = record { job = take k (i .job); device = i .device; rules = i .rules; journal = i .journal }
 
 -- the verdicts vs and the journal j that a run leaves agree with the clean verdicts and the clean journals after each number
--- of transactions,
--- as far as they go: up to k, the number of verdicts that are accepted or rejected (R-10.8)
+-- of transactions, as far as they go: up to k, the number of verdicts that are accepted or rejected (R-10.8)
 pub record Agrees {J : Type 0} (clean : List Verdict) (journals : ℕ → J) (vs : List Verdict) (j : J) (k : ℕ) : Type 0 where
   -- the first k verdicts are the first k of the clean run
   pub first-clean : take k vs ≡ take k clean

@@ -1,6 +1,5 @@
 -- The run of both ends over a line that may damage what it carries (document 01, "The run"): over the steps' own
--- definitions, byte for byte,
--- whatever the central's journal is made of.
+-- definitions, byte for byte, whatever the central's journal is made of.
 use mathlib.Core.List.{List, [], _∷_, tail}
 use Prim.Native.Nat.{ℕ, zero, suc, _+_, _*_}
 use lib.ListN.{length, set, replicate}

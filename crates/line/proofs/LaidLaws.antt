@@ -1,10 +1,10 @@
--- Laws of `Laid`: nothing, where it lies, one byte more, one stored anew, and bytes laid behind others by a writer that was lent the memory from their end on. And how it gives `Wrote`, and comes of it.
+-- Laws of `Laid`: nothing, where it lies, one byte more, and bytes laid behind others by a writer that was lent the memory from their end on. And how it gives `Wrote`, and comes of it.
 use mathlib.Core.List.{List, [], _∷_, _++_}
 use mathlib.Core.Path.{_≡_, refl, sym, ap, _∙_}
 use Prim.Native.Nat.{ℕ, _+_, _-_, _≤_, _<_}
 use native.Mathlib.Omega.{arith}
-use lib.ListN.{length, take, drop, set, length-append, length-set, length-take, length-drop}
-use lib.Seq.{take-all, set-append-left}
+use lib.ListN.{length, take, drop, set, length-append, length-take, length-drop}
+use lib.Seq.{take-all}
 use Rattle.line.specs.Answer.{Outcome, done, overlay, writtenAs, Laid, Wrote}
 use Rattle.line.specs.declared.answer.Refusal.{Refusal}
 use Rattle.line.specs.declared.answer.Written.{Written}
@@ -34,15 +34,6 @@ laid-snoc {a} {m} {n} k v d h e =
     record {
       counts = omega (arith, d .counts, length-append a (v ∷ []));
       leaves = rw (d .leaves) (overlay-snoc a m n v (sym (d .counts)) h);
-    }
-
--- one of the bytes stored anew
-pub laid-set : {a m out : List ℕ} {n : ℕ} (i v : ℕ) → Laid a n m out → i < length a → Laid (set a i v) n m (set out i v)
-unfolding overlay
-laid-set {a} {m} i v d h =
-    record {
-      counts = d .counts ∙ sym (length-set a i v);
-      leaves = rw (d .leaves, set-append-left a (drop (length a) m) i v h, length-set);
     }
 
 -- the memory from n on

@@ -41,8 +41,7 @@ join r buffer g =
     })
 
 -- one block more: 9 where the state is out of range, 1 where the buffer is short of 2,000, 2 where it would be over 2,000 in
--- all;
--- then 2 to 6 as the reader has them (R-4.1, R-4.2)
+-- all; then 2 to 6 as the reader has them (R-4.1, R-4.2)
 unfoldable pub joinBlock : Reassembly → List ℕ → List ℕ → Outcome Progress
 joinBlock r buffer s =
     if not (inRange r buffer) then refused 9

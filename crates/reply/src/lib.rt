@@ -16,7 +16,7 @@ ghost use mathlib.Core.Path.{_≡_};
 ghost use Prim.Native.Nat.{_≤_};
 ghost use lib.Dec.{eqb};
 ghost use lib.ListN.{length, drop};
-ghost use Rattle.line.specs.Character.{CR, LF, printable};
+ghost use Rattle.line.specs.Character.{CR, LF};
 ghost use Rattle.reply.specs.Reading.{replyRead, textRead, codeRead, accepts, requests, afterLines, closes, begins, finishes, ends};
 
 // What a reply means.

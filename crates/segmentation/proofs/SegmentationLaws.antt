@@ -1,15 +1,15 @@
 -- Laws of the segmentation used here: it is a legal one, how many blocks it has, which each of them is, and how long they are one after the other.
 -- All of them follow from the cut at 250.
 use mathlib.Core.Bool.{Bool, true, false}
-use mathlib.Core.List.{List, [], _∷_, _++_, flatMap, append-nil}
+use mathlib.Core.List.{List, [], _∷_, flatMap}
 use mathlib.Core.Path.{_≡_, refl, ap, _∙_}
 use Prim.Native.Nat.{ℕ, zero, suc, _+_, _*_, _-_, _≤_, _<_, min}
 use native.Mathlib.Numerals.{add-one}
 use native.Mathlib.Omega.{arith}
 use borrow.Author.Tests.{lt-leb, le-ltb, leb-true, leb-false, ne-eqb}
 use lib.Dec.{eqb, leb, eqb·suc-suc}
-use lib.ListN.{length, getD, take, drop, length-append, length-take, length-drop, take-append-drop, drop-of-length-le}
-use lib.Seq.{take-all, take-at, drop-at, drop-cons, drop-drop}
+use lib.ListN.{length, getD, take, drop, length-append, length-take, length-drop, take-append-drop}
+use lib.Seq.{take-all, drop-drop}
 use Rattle.line.specs.Answer.{done}
 use Rattle.line.specs.Character.{seven}
 use Rattle.line.specs.Test.{if_then_else_, all}
@@ -156,34 +156,6 @@ segmentation-whole t = way-whole filled-way (length t) t (omega arith) tt
 -- the blocks of a transaction have six characters each besides the information
 pub segmentation-length : (t : List ℕ) → length (blocksOf (segmentation t)) ≡ length t + 6 * length (segmentation t)
 segmentation-length t = blocks-length (segmentation t) ∙ rw (segmentation-whole t)
-
--- the blocks before one are full
-blocks-before : (t : List ℕ) (i : ℕ) → i < length (segmentation t) → length (blocksOf (take i (segmentation t))) ≡ 256 * i
-unfolding flatMap
-blocks-before t zero h = omega arith
-blocks-before t (suc i) h =
-    let here : i < length (segmentation t) = omega arith in
-    let g = segmentAt t i in
-    let next = rw add-one at (flat-snoc segmentBlock (segmentation t) i (segment [] Etx) here) in
-    rw (next, length-append) (omega (arith, blocks-before t i here, block-length (g .info) (g .ending), segment-length t i here, segmentation-count t))
-
--- so a block is a piece of 256 of them, or what is left
-pub blocks-at : (t : List ℕ) (i : ℕ) → i < length (segmentation t) → take 256 (drop (256 * i) (blocksOf (segmentation t))) ≡ segmentBlock (segmentAt t i)
-unfolding flatMap
-blocks-at t i h =
-    let ss = segmentation t in
-    let g = segmentAt t i in
-    let whole = rw (take-append-drop, drop-cons ss i (segment [] Etx) h) at (flat-append segmentBlock (take i ss) (drop i ss)) in
-    rw (whole, drop-at (blocksOf (take i ss)) (segmentBlock g ++ blocksOf (drop (suc i) ss)) (256 * i) (blocks-before t i h)) (front (leb (length ss) (i + 1)) refl)
-  where
-    front : (b : Bool) → leb (length (segmentation t)) (i + 1) ≡ b → take 256 (segmentBlock (segmentAt t i) ++ blocksOf (drop (suc i) (segmentation t))) ≡ segmentBlock (segmentAt t i)
-    front true e =
-        let end : length (segmentation t) ≤ suc i = omega (arith, leb-true (length (segmentation t)) (i + 1) e) in
-        rw (drop-of-length-le (segmentation t) end, append-nil) (take-all 256 (segmentBlock (segmentAt t i)) (segment-short t i h))
-    front false e =
-        let full : length (segmentBlock (segmentAt t i)) ≡ 256 =
-        block-length (segmentAt t i .info) (segmentAt t i .ending) ∙ (omega (arith, leb-false (length (segmentation t)) (i + 1) e, segment-length t i h, segmentation-count t)) in
-        take-at (segmentBlock (segmentAt t i)) (blocksOf (drop (suc i) (segmentation t))) 256 full
 
 -- a block fits behind those before it
 pub blocks-fit : (t : List ℕ) (i : ℕ) → i < length (segmentation t) →

@@ -1,4 +1,4 @@
--- `tyntolai_central_hang_up` meets its contract: a record with no stage is refused, else the state that it is drops the line.
+-- `tyntolai_central_hang_up` meets its contract: a record with no stage is refused, else the state that it and the lent memory are drops the line.
 use borrow.Author.Tests.{lt-ltb, le-ltb}
 use Rattle.abi.specs.Centrals.{centralDropped}
 use Rattle.abi.proofs.CallerLaws.{central-drops}
@@ -13,8 +13,8 @@ returns : tie.Need-returns
 unfolding centralDropped
 returns c = rw (lt-ltb 3 _ (c .before .if1 .taken)) (c .refuse .ensures)
 
-state-of-requires : tie.Need-state-of-requires
-state-of-requires c κs = search needs
+control-of-requires : tie.Need-control-of-requires
+control-of-requires c κs = search needs
 
 settings-of-requires : tie.Need-settings-of-requires
 settings-of-requires c κs = search needs
@@ -28,8 +28,9 @@ pack-requires c κs = search needs
 returns-2 : tie.Need-returns-2
 unfolding centralDropped
 returns-2 c =
-    rw (le-ltb 3 _ (c .before .before .before .before .if1 .left))
-    (central-drops _ _ (rw (c .before .before .before .state-of .ensures, c .before .before .settings-of .ensures) at (c .before .hang-up .ensures)) (c .pack .ensures))
+    let stage = le-ltb 3 _ (c .before .before .before .before .if1 .left) in
+    rw stage
+    (central-drops _ _ _ stage (rw (c .before .before .before .control-of .ensures, c .before .before .settings-of .ensures) at (c .before .hang-up .ensures)) (c .pack .ensures))
 
 pub tyntolai-central-hang-up-spec : {M : Type 1} → statement M
 tyntolai-central-hang-up-spec =
@@ -37,7 +38,7 @@ tyntolai-central-hang-up-spec =
     (tie.spec
     refuse-requires
     returns
-    state-of-requires
+    control-of-requires
     settings-of-requires
     hang-up-requires
     pack-requires

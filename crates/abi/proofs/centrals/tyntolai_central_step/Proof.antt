@@ -1,4 +1,4 @@
--- `tyntolai_central_step` meets its contract: a record with no stage is refused, else the state that it is steps.
+-- `tyntolai_central_step` meets its contract: a record with no stage is refused, else the state that it and the lent memory are steps.
 use borrow.Author.Tests.{lt-ltb, le-ltb}
 use Rattle.abi.specs.Centrals.{centralStepped}
 use Rattle.abi.proofs.CallerLaws.{central-refused, central-steps}
@@ -11,10 +11,10 @@ refuse-requires c κs = search needs
 
 returns : tie.Need-returns
 unfolding centralStepped
-returns c = rw (lt-ltb 3 _ (c .before .if1 .taken)) (central-refused _ _ (c .refuse .ensures))
+returns c = rw (lt-ltb 3 _ (c .before .if1 .taken)) (central-refused _ _ _ (c .refuse .ensures))
 
-state-of-requires : tie.Need-state-of-requires
-state-of-requires c κs = search needs
+control-of-requires : tie.Need-control-of-requires
+control-of-requires c κs = search needs
 
 settings-of-requires : tie.Need-settings-of-requires
 settings-of-requires c κs = search needs
@@ -31,9 +31,16 @@ same-length c = search needs
 same-length-2 : tie.Need-same-length-2
 same-length-2 c = search needs
 
+same-length-3 : tie.Need-same-length-3
+same-length-3 c = search needs
+
 returns-2 : tie.Need-returns-2
 unfolding centralStepped
-returns-2 c = rw (le-ltb 3 _ (c .before .before .before .before .before .before .before .before .before .before .if1 .left)) (central-steps _ (rw (c .before .before .before .before .before .before .before .before .before .state-of .ensures, c .before .before .before .before .before .before .before .before .settings-of .ensures) at (c .before .before .before .before .before .step .ensures)) (c .pack .ensures))
+returns-2 c =
+    let t = c .before .before .before .before .before .before .before in
+    let g = t .before .before .before .before in
+    let stage = le-ltb 3 _ (g .before .before .if1 .left) in
+    rw stage (central-steps _ stage (rw (g .before .control-of .ensures, g .settings-of .ensures) at (t .step .ensures)) (c .pack .ensures))
 
 pub tyntolai-central-step-spec : {M : Type 1} → statement M
 tyntolai-central-step-spec =
@@ -41,10 +48,11 @@ tyntolai-central-step-spec =
     (tie.spec
     refuse-requires
     returns
-    state-of-requires
+    control-of-requires
     settings-of-requires
     step-requires
     pack-requires
     same-length
     same-length-2
+    same-length-3
     returns-2)

@@ -12,7 +12,7 @@ slice-reshare-prefix-step : tie.Need-slice-reshare-prefix-step
 slice-reshare-prefix-step c = search needs
 
 slice-aggregate-step : tie.Need-slice-aggregate-step
-slice-aggregate-step c = sym (length-take-le _ _ (c .before .before .before .before .arrive .ensures .inside))
+slice-aggregate-step c = sym (length-take-le _ _ (c .before .before .before .before .before .arrive .ensures .inside))
 
 step-requires : tie.Need-step-requires
 step-requires c κs = search needs
@@ -26,8 +26,13 @@ same-length-2 c = search needs
 same-length-3 : tie.Need-same-length-3
 same-length-3 c = search needs
 
+same-length-4 : tie.Need-same-length-4
+same-length-4 c = search needs
+
 returns : tie.Need-returns
-returns c = rw (c .before .before .before .before .before .before .before .before .before .before .arrive .ensures .arrived) at (c .before .before .before .before .step .ensures)
+returns c =
+    let t = c .before .before .before .before .before .before in
+    rw (t .before .before .before .before .before .before .before .arrive .ensures .arrived) at (t .step .ensures)
 
 pub hear-spec : {M : Type 1} → statement M
 hear-spec =
@@ -40,4 +45,5 @@ hear-spec =
     same-length
     same-length-2
     same-length-3
+    same-length-4
     returns)

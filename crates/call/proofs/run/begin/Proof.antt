@@ -2,7 +2,6 @@
 use mathlib.Core.Path.{sym}
 use native.Mathlib.Omega.{arith}
 use Rattle.call.proofs.CallLaws.{started-steps, begins}
-use Rattle.call.proofs.ExchangeLaws.{not-refused}
 use borrow.Author.Needs.{needs}
 use Rattle.call.proofs.run.begin.Statement.{statement}
 use Rattle.call.proofs.run.begin.Tie as tie
@@ -16,42 +15,37 @@ slice-aggregate-start c = search needs
 start-requires : tie.Need-start-requires
 start-requires c κs = search needs
 
-enum-known-outcome : tie.Need-enum-known-outcome
-enum-known-outcome c = search needs
-
-enum-told : tie.Need-enum-told
-enum-told c = search needs
-
-same-length : tie.Need-same-length
-same-length c = search needs
-
-returns : tie.Need-returns
-returns c =
-    let d = c .before .before .before in
-    let steps = started-steps (c .before .before .before .before .before .before .before .before .before .before .before .before .before .before .pre .sound) (d .start .ensures) (omega (arith, slice-aggregate-start (d .before))) in
-    not-refused _ (c .enum-told .given .1) (steps .answers)
-
 start-requires-2 : tie.Need-start-requires-2
 start-requires-2 c κs = search needs
+
+count-requires : tie.Need-count-requires
+count-requires c κs = search needs
 
 slice-aggregate-play : tie.Need-slice-aggregate-play
 slice-aggregate-play c = search needs
 
+slice-aggregate-play-2 : tie.Need-slice-aggregate-play-2
+slice-aggregate-play-2 c = search needs
+
 play-requires : tie.Need-play-requires
 play-requires c κs =
-    let d = c .before .before .before .before .before .before .before .before .before in
-    let p = c .before .before .before .before .before .before .before .before .before .before .before .before .before .before .before .before .before .before .before .before .pre in
+    let counted = c .before .before .before .before in
+    let d = counted .before .before .before .before in
+    let cleared = d .before .before .before .before in
+    let p = cleared .before .before .before .before .before .before .before .pre in
     let steps = started-steps (p .sound) (d .start .ensures) (omega (arith, slice-aggregate-start (d .before))) in
-    begins p _ steps (c .before .before .before .before .before .before .outcome .given .1) (c .before .before .before .start2 .ensures) (c .before .before .before .before .before .before .before .before .before .before .before .before .before .clear .ensures) (sym (slice-aggregate-play (c .before)))
+    begins p _ steps (counted .count .ensures) (counted .before .start2 .ensures) (cleared .clear .ensures) (sym (slice-aggregate-play (c .before .before))) (sym (slice-aggregate-play-2 (c .before)))
+
+same-length : tie.Need-same-length
+same-length c = search needs
 
 same-length-2 : tie.Need-same-length-2
 same-length-2 c = search needs
 
-same-length-3 : tie.Need-same-length-3
-same-length-3 c = search needs
-
-returns-2 : tie.Need-returns-2
-returns-2 c = rw (c .before .before .before .before .before .before .before .before .before .start2 .ensures) at (c .before .before .before .before .before .play .ensures)
+returns : tie.Need-returns
+returns c =
+    let p = c .before .before .before .before .before .before in
+    rw (p .before .before .before .before .before .before .start2 .ensures) at (p .play .ensures)
 
 pub begin-spec : {M : Type 1} → statement M
 begin-spec =
@@ -60,13 +54,11 @@ begin-spec =
     clear-requires
     slice-aggregate-start
     start-requires
-    enum-known-outcome
-    enum-told
-    same-length
-    returns
     start-requires-2
+    count-requires
     slice-aggregate-play
+    slice-aggregate-play-2
     play-requires
+    same-length
     same-length-2
-    same-length-3
-    returns-2)
+    returns)

@@ -18,45 +18,45 @@ use Rattle.call.proofs.run.play.Statement.{statement}
 use Rattle.call.proofs.run.play.Tie as tie
 
 abbrev Inv-loop : tie.InvT-loop
-Inv-loop job device central pagers journal₀ faults memory₀ verdicts₀ ends₀ transmissions₀ journal memory verdicts ends transmissions =
-    (length journal ≡ length journal₀) × (length memory ≡ length memory₀) × (length verdicts ≡ length verdicts₀) × (all byte journal ≡ true) ×
-    Going (setup device central pagers job) (output (decodeIn journal₀ (ends₀ .central .journal))) faults journal₀ ends transmissions journal memory verdicts
+Inv-loop job device central pagers journal₀ faults pending₀ memory₀ verdicts₀ ends₀ transmissions₀ journal pending memory verdicts ends transmissions =
+    (length journal ≡ length journal₀) × (length pending ≡ length pending₀) × (length memory ≡ length memory₀) × (length verdicts ≡ length verdicts₀) × (all byte journal ≡ true) ×
+    Going (setup device central pagers job) (output (decodeIn journal₀ (ends₀ .central .journal))) faults journal₀ ends transmissions journal pending memory verdicts
 
 abbrev μ-loop : tie.MeasureT-loop
-μ-loop job device central pagers journal₀ faults memory₀ verdicts₀ ends₀ transmissions₀ journal memory verdicts ends transmissions =
+μ-loop job device central pagers journal₀ faults pending₀ memory₀ verdicts₀ ends₀ transmissions₀ journal pending memory verdicts ends transmissions =
     transmissionsLeft device (output (decode job)) (ends .device .step)
 
 loop-holds : tie.Need-loop-holds Inv-loop μ-loop
 loop-holds c =
-    let p = c .before .before .before .before .before .before .pre in
-    let bytes = all-bytes _ (c .before .before .before .slice-known .given) in
-    (refl, refl, refl, bytes, going-begins _ _ p bytes)
+    let p = c .before .before .before .before .before .before .before .pre in
+    let bytes = all-bytes _ (c .before .before .before .before .slice-known .given) in
+    (refl, refl, refl, refl, bytes, going-begins _ _ p bytes)
 
 fault-at-requires : tie.Need-fault-at-requires Inv-loop μ-loop
 fault-at-requires c κs = search needs
 
 exchange-requires : tie.Need-exchange-requires Inv-loop μ-loop
 exchange-requires c κs =
-    let g = c .before .before .before .before .before .before .loop .inv .4 in
+    let g = c .before .before .before .before .before .before .before .loop .inv .5 in
     underway _ _ g
 
 add-transmissions : tie.Need-add-transmissions Inv-loop μ-loop
 add-transmissions c =
-    let g = c .before .before .before .before .before .before .before .before .before .before .before .before .before .loop .inv .4 in
-    let s = c .before .before .before .before .before .before .before .before .before .before .before .before .before .before .before .before .before .before .before .before in
-    omega (arith, g .bounded, sound-few [] (s .pre .sound) (all-bytes _ (c .before .before .before .before .before .before .before .before .before .before .before .before .before .before .before .before .before .before .before .shared-slice-known .given)))
+    let g = c .before .before .before .before .before .before .before .before .before .before .before .before .before .before .before .before .loop .inv .5 in
+    let s = c .before .before .before .before .before .before .before .before .before .before .before .before .before .before .before .before .before .before .before .before .before .before .before .before in
+    omega (arith, g .bounded, sound-few [] (s .pre .sound) (all-bytes _ (c .before .before .before .before .before .before .before .before .before .before .before .before .before .before .before .before .before .before .before .before .before .before .before .shared-slice-known .given)))
 
 loop-less : tie.Need-loop-less Inv-loop μ-loop
 loop-less c =
-    let g = c .before .before .before .before .before .before .before .before .before .before .before .before .before .loop .inv .4 in
-    going-less _ _ g (omega (arith, c .before .before .before .before .before .before .before .before .before .before .before .if1 .taken)) (c .before .before .before .before .before .before .before .before .before .before .fault-at .ensures) (c .before .before .before .before .before .before .exchange .ensures (underway _ _ g))
+    let g = c .before .before .before .before .before .before .before .before .before .before .before .before .before .before .before .before .loop .inv .5 in
+    going-less _ _ g (omega (arith, c .before .before .before .before .before .before .before .before .before .before .before .before .before .before .if1 .taken)) (c .before .before .before .before .before .before .before .before .before .before .before .before .before .fault-at .ensures) (c .before .before .before .before .before .before .before .before .exchange .ensures (underway _ _ g))
 
 loop-again : tie.Need-loop-again Inv-loop μ-loop
 loop-again c =
-    let l = c .before .before .before .before .before .before .before .before .before .before .before .before .before .loop in
-    let g = l .inv .4 in
-    let next = going-on _ _ g (omega (arith, c .before .before .before .before .before .before .before .before .before .before .before .if1 .taken)) (c .before .before .before .before .before .before .before .before .before .before .fault-at .ensures) (c .before .before .before .before .before .before .exchange .ensures (underway _ _ g)) in
-    (c .before .before .before .before .before .journal .given ∙ l .inv .0, c .before .before .before .memory .given ∙ l .inv .1, c .before .verdicts .given ∙ l .inv .2, all-bytes _ (c .before .before .before .before .slice-known4 .given), next)
+    let l = c .before .before .before .before .before .before .before .before .before .before .before .before .before .before .before .before .loop in
+    let g = l .inv .5 in
+    let next = going-on _ _ g (omega (arith, c .before .before .before .before .before .before .before .before .before .before .before .before .before .before .if1 .taken)) (c .before .before .before .before .before .before .before .before .before .before .before .before .before .fault-at .ensures) (c .before .before .before .before .before .before .before .before .exchange .ensures (underway _ _ g)) in
+    (c .before .before .before .before .before .before .before .journal .given ∙ l .inv .0, c .before .before .before .before .before .pending .given ∙ l .inv .1, c .before .before .before .memory .given ∙ l .inv .2, c .before .verdicts .given ∙ l .inv .3, all-bytes _ (c .before .before .before .before .before .before .slice-known5 .given), next)
 
 same-length : tie.Need-same-length Inv-loop μ-loop
 same-length c = c .before .before .loop .inv .0
@@ -67,10 +67,13 @@ same-length-2 c = c .before .before .loop .inv .1
 same-length-3 : tie.Need-same-length-3 Inv-loop μ-loop
 same-length-3 c = c .before .before .loop .inv .2
 
+same-length-4 : tie.Need-same-length-4 Inv-loop μ-loop
+same-length-4 c = c .before .before .loop .inv .3
+
 returns : tie.Need-returns Inv-loop μ-loop
 returns c =
     let l = c .before .before .loop in
-    going-ends _ _ (l .inv .4) (omega (arith, c .if1 .left)) (l .inv .3)
+    going-ends _ _ (l .inv .5) (omega (arith, c .if1 .left)) (l .inv .4)
 
 pub play-spec : {M : Type 1} → statement M
 play-spec =
@@ -87,4 +90,5 @@ play-spec =
     same-length
     same-length-2
     same-length-3
+    same-length-4
     returns)

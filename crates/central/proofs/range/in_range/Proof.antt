@@ -3,7 +3,7 @@ use mathlib.Core.Bool.{and-false}
 use mathlib.Core.Path.{sym, _∙_}
 use borrow.Author.Tests.{not-true, not-false}
 use Rattle.central.proofs.RangeLaws.{and-out}
-use Rattle.central.specs.Inner.{stateOf}
+use Rattle.central.specs.Lent.{stateOf}
 use Rattle.central.specs.Step.{pagersInRange, settingsInRange, stateInRange}
 use borrow.Author.Needs.{needs}
 use Rattle.central.proofs.range.in_range.Statement.{statement}

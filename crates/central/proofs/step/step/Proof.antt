@@ -1,96 +1,44 @@
--- `step` meets its contract: a refusal of the tests stands, and where they pass the central reacts and answers.
-use mathlib.Core.Path.{_≡_, refl, sym, ap, _∙_}
-use lib.ListN.{length}
-use Rattle.line.proofs.OutcomeLaws.{map-refused}
-use Rattle.line.specs.Answer.{checkedAs}
-use Rattle.central.proofs.RangeLaws.{ready}
-use Rattle.central.proofs.StepLaws.{Passes, tested-passes, stepped-refused, stepped-done, steps-refused, steps-done}
-use Rattle.central.specs.Step.{tested}
+-- `step` meets its contract: it is that over lent memory, of the array's size.
+use mathlib.Core.Path.{sym}
+use borrow.Author.Tests.{eq-eqb}
+use Rattle.central.specs.Lent.{steppedIn}
 use borrow.Author.Needs.{needs}
 use Rattle.central.proofs.step.step.Statement.{statement}
 use Rattle.central.proofs.step.step.Tie as tie
 
--- where the function began, from behind the tests
-abbrev start : tie.After-enum-told → tie.Start
-start c = c .before .before .before .before .before .before .before .before .before .before
+control-of-requires : tie.Need-control-of-requires
+control-of-requires c κs = search needs
 
--- the array has its size
-sized : (c : tie.Start) → length (c .args .state .pending) ≡ 2000
-sized c = search needs
+slice-aggregate-step : tie.Need-slice-aggregate-step
+slice-aggregate-step c = search needs
 
--- what passed them
-passes : (c : tie.After-enum-told) →
-    let a = start c .args in
-    Passes (a .state) (a .settings) (a .pagers .now) (a .journal .now) (length (a .out .now))
-passes c =
-    let t = c .before .before in
-    tested-passes _ _ _ _ _ _ (sym (t .test .ensures) ∙ ap checkedAs (c .enum-told .given .1))
+step-requires : tie.Need-step-requires
+step-requires c κs = search needs
 
-slice-aggregate-test : tie.Need-slice-aggregate-test
-slice-aggregate-test c = search needs
-
-test-requires : tie.Need-test-requires
-test-requires c κs = search needs
-
-enum-known-tested : tie.Need-enum-known-tested
-enum-known-tested c = search needs
+join-requires : tie.Need-join-requires
+join-requires c κs = search needs
 
 same-length : tie.Need-same-length
 same-length c = search needs
 
-returns : tie.Need-returns
-returns c =
-    let t = c .before .before .before in
-    let a = t .before .before .before .before .before .before .before .before .args in
-    let no = map-refused _ _ _ (sym (t .test .ensures) ∙ ap checkedAs (c .before .tested .given .1)) in
-    steps-refused _ (a .state) _ (a .journal .now) (a .out .now) (stepped-refused (a .state) (a .settings) (a .pagers .now) (a .journal .now) (a .string .now) _ _ no) refl
-
-enum-told : tie.Need-enum-told
-enum-told c = search needs
-
-slice-aggregate-react : tie.Need-slice-aggregate-react
-slice-aggregate-react c = search needs
-
-react-requires : tie.Need-react-requires
-react-requires c κs =
-    let d = c .before .before in
-    let s = start d in
-    let p = passes d in
-    ready (s .args .settings) (s .args .pagers .now) _ (s .args .state .pending) (s .args .journal .now) (sized s) (p .range) (p .journal)
-
-put-answer-requires : tie.Need-put-answer-requires
-put-answer-requires c κs =
-    let d = c .before .before .before .before .before .before .before in
-    passes d .roomy
-
 same-length-2 : tie.Need-same-length-2
 same-length-2 c = search needs
 
-same-length-3 : tie.Need-same-length-3
-same-length-3 c = search needs
-
-returns-2 : tie.Need-returns-2
-returns-2 c =
-    let g = c .before .before .before in
-    let r = g .before .before .before .before .before in
-    let d = r .before .before .before in
-    let s = start d in
-    let a = s .args in
-    steps-done (stepped-done _ (a .settings) (a .pagers .now) (a .state .pending) (a .journal .now) (a .string .now) _ (passes d .tests)) (r .react .ensures) (g .put-answer .ensures)
+returns : tie.Need-returns
+unfolding steppedIn
+returns c =
+    let t = c .before .before .before .before .before .before in
+    let k = t .before .before .before .before in
+    rw (c .join .ensures) (rw (k .control-of .ensures, eq-eqb _ 2000 (sym (slice-aggregate-step (t .before .before)))) at (t .step .ensures))
 
 pub step-spec : {M : Type 1} → statement M
 step-spec =
     tie.close
     (tie.spec
-    slice-aggregate-test
-    test-requires
-    enum-known-tested
+    control-of-requires
+    slice-aggregate-step
+    step-requires
+    join-requires
     same-length
-    returns
-    enum-told
-    slice-aggregate-react
-    react-requires
-    put-answer-requires
     same-length-2
-    same-length-3
-    returns-2)
+    returns)

@@ -9,9 +9,6 @@ use borrow.Author.Needs.{needs}
 use native.Mathlib.Omega.{arith}
 use Rattle.journal.proofs.record.survey_from.Statement.{statement}
 use Rattle.journal.proofs.record.survey_from.Tie as tie
-use Rattle.journal.proofs.record.survey_from.Reads as reads
-use Rattle.journal.proofs.record.survey_from.Lts as lts
-use Rattle.journal.proofs.cursor.step_back.Reads as step-back-reads
 
 abbrev Inv-loop : tie.InvT-loop
 Inv-loop journal index count at₀ last₀ here₀ next₀ at last here next = Noted journal index at₀ at last here next

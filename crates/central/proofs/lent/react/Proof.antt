@@ -15,8 +15,8 @@ use Rattle.central.specs.Hearing.{noise, heardText}
 use Rattle.central.specs.Reaction.{reacts, stays}
 use Rattle.central.specs.Step.{rulesOf}
 use borrow.Author.Needs.{needs}
-use Rattle.central.proofs.step.react.Statement.{statement}
-use Rattle.central.proofs.step.react.Tie as tie
+use Rattle.central.proofs.lent.react.Statement.{statement}
+use Rattle.central.proofs.lent.react.Tie as tie
 
 -- the buffer's bytes are bytes
 bytes : (c : tie.After-shared-slice-known2) → all byte (c .before .before .before .before .args .journal .now) ≡ true

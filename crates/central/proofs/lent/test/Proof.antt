@@ -5,11 +5,11 @@ use borrow.Author.Tests.{not-true, not-false}
 use lib.ListN.{length}
 use Rattle.line.specs.Answer.{mapDone}
 use Rattle.central.proofs.StepLaws.{tested-range, tested-short, tested-journal}
-use Rattle.central.specs.Inner.{stateOf}
+use Rattle.central.specs.Lent.{stateOf}
 use Rattle.central.specs.Step.{pagersInRange, settingsInRange, stateInRange}
 use borrow.Author.Needs.{needs}
-use Rattle.central.proofs.step.test.Statement.{statement}
-use Rattle.central.proofs.step.test.Tie as tie
+use Rattle.central.proofs.lent.test.Statement.{statement}
+use Rattle.central.proofs.lent.test.Tie as tie
 
 -- settings, pager list and state are in range
 ranged : (c : tie.Else1) →
