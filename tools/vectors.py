@@ -1,10 +1,11 @@
 #!/usr/bin/env python3
-"""Writes crates/vectors/stdin and stdout: calls, and what document 01 says comes of each; and the same of the lines that crates/blocks reads.
+"""Writes crates/vectors/stdin and stdout: calls, and what documents 01 and 02 say comes of each; and the same of the lines that crates/blocks reads.
 
 The answers come from a model of document 01 that is written here in Python, from the paper and not from the Rattle sources, and from the
-numbers that the paper prints, which are asserted below, as demand 3 is of every run. Three parts are younger, and by people who knew the Rattle sources:
-the walk of a journal, single steps from saved states, and that hanging up tests no pager list (a decision, which the model followed). Of those it is a
-second writing and no second opinion. The program `vectors` makes the calls on the proved functions; the gate compares.
+numbers that the paper prints, which are asserted below, as demand 3 is of every run. Four parts are younger, and by people who knew the Rattle sources:
+the walk of a journal, single steps from saved states, that hanging up tests no pager list (a decision, which the model followed), and the framer of
+document 02, which is written twice here. Of those it is a second writing and no second opinion. The program `vectors` makes the calls on the proved
+functions; the gate compares.
 
 A line of stdin is a call: a letter, then arguments with a space before each. Bytes are hex pairs; `*` and four hex digits behind a pair repeat it;
 no bytes are `-`. A number is bytes too, high first.
@@ -1054,6 +1055,166 @@ def runs(rng):
           rng.choice((2000, 2000, 500, 251) if i % 4 else (3, 12, 250)), rng.randint(0, 3), (123, 7, 99999999), rng.choice(some if i % 3 else tight))
 
 
+# ── the framer ──
+class Framer:
+    """The strings in the bytes that a wire brings, one byte at a time (document 02, wish 1)."""
+
+    def __init__(self, held=b""):
+        self.held = held
+
+    def take(self, byte):
+        """The string that one byte more completes, or None."""
+        if not self.held and byte & 0x7F not in (STX, EOT):
+            return None
+        self.held += bytes([byte])
+        return self.flush() if self.complete() else None
+
+    def complete(self):
+        text = [x & 0x7F for x in self.held]
+        behind = [len(text) - 1 - i for i, x in enumerate(text) if x in ENDINGS.values()]  # how many stand behind each ending
+        return len(text) == 2 if text[0] == EOT else behind[:1] == [4] or len(text) == 256
+
+    def flush(self):
+        string, self.held = self.held, b""
+        return string
+
+
+STRINGS = re.compile(rb"(?s)\x04.|\x02[^\x03\x17\x1f]{0,250}[\x03\x17\x1f].{4}|\x02.{255}|([\x02\x04].*)")
+
+
+def strings(data):
+    """The strings in the bytes, and what is held behind them, by an expression over the 7-bit values."""
+    found = list(STRINGS.finditer(bytes(x & 0x7F for x in data)))
+    left = found.pop().start() if found and found[-1][1] else len(data)
+    return [data[x.start():x.end()] for x in found], data[left:]
+
+
+def framer_in_range(memory, n):
+    """The start can lead to the state: so its own bytes do."""
+    framer = Framer()
+    return n <= len(memory) and not any(framer.take(x) for x in memory[:n]) and framer.held == memory[:n] and not any(memory[n:])
+
+
+def framed(memory, n, room, pieces):
+    """What a driver gets that feeds pieces to a saved state, each until all of it is used, and flushes; and how state and output stand at the end."""
+    begin, out, said, got = memory[:n], FILLER * room, [], []
+
+    def tested():
+        if not framer_in_range(memory, n):
+            raise Refused(9)
+        if room < 256:
+            raise Refused(1)
+        return Framer(memory[:n])
+
+    for piece in pieces:
+        again = True
+        while again:
+            try:
+                framer = tested()
+            except Refused as r:
+                said.append("0 refused %s" % r)
+                break
+            string, used = None, 0
+            while used < len(piece) and string is None:
+                string, used = framer.take(piece[used]), used + 1
+            piece, memory, n = piece[used:], framer.held.ljust(256, b"\0"), len(framer.held)
+            said.append("%d %s" % (used, "part" if string is None else plain(string)))
+            if string is not None:
+                got, out = got + [string], laid(string, out)
+            again = string is not None and piece
+    said.append("%s %s" % (digest(out), plain(memory[:n])))
+    try:
+        framer = tested()
+        assert (got, framer.held) == strings(begin + b"".join(pieces))  # however the bytes are divided
+        string = framer.flush()
+        out, memory, n = laid(string, out), framer.held.ljust(256, b"\0"), len(framer.held)
+        said.append(wrote(string))
+    except Refused as r:
+        said.append("refused %s" % r)
+    return "%s, %d %s %s" % (", ".join(said), n, digest(memory), digest(out))
+
+
+def m(*pieces, held=b"", n=None, room=256):
+    """Pieces fed to a framer from a saved state, then a flush; n is the length of what is held, room the size of the output."""
+    n = len(held) if n is None else n
+    assert len(held) <= 256 and len(pieces) <= 27  # what the program has room for
+    call("m", hexed(held), number(n), number(room), *[hexed(x) for x in pieces], answer=lambda: framed(held.ljust(256, b"\0"), n, room, pieces))
+
+
+def divided(data, *places):
+    """The bytes in pieces, cut at these places."""
+    return [data[i:k] for i, k in zip((0,) + places, places + (len(data),))]
+
+
+def anyhow(rng, data, most):
+    """The bytes in pieces, cut at so many places at most, among them the same one twice."""
+    return divided(data, *sorted(rng.choices(range(len(data) + 1), k=rng.randint(0, most))))
+
+
+def framing(rng):
+    page, more, bye = (bytes(map(with_parity, x)) for x in (block(b"123\rABC\r", ETX), block(b"7\rAB", US), b"\x04\r"))
+    assert strings(b"?" + page + b"\r\n" + more + bye + page[:-1]) == ([page, more, bye], page[:-1])
+    # every division of short inputs, and some with empty pieces
+    for data in (b"?\x02A\x03170\r", b"\x84\x02\x02\x9f\x04\x02\x03\x04", b"\x82A\x04\x02B\r"):
+        for some in itertools.product((False, True), repeat=len(data) - 1):
+            m(*divided(data, *itertools.compress(range(1, len(data)), some)))
+        for i in range(len(data) + 1):
+            m(data[:i], b"", data[i:]), m(b"", *anyhow(rng, data, 3), b"", b"")
+    m(), m(b""), m(b"", b""), m(b"\x02", b""), m(b"", b"\x04", b"", b"\r", b"")
+    # blocks as the entry device writes them: alone, in a row, with other bytes between; and EOT CR
+    for data in (page, more, bye, page + page, page + more + bye, b"\r\n" + page + b"?\xff\0" + more + b"\r" + bye + b"\r", page[1:] + page, page[:-1] + more, bye[:1] + page,
+                 bye + b"\x8d" + bye):
+        m(data), m(*anyhow(rng, data, 2)), m(*anyhow(rng, data, 5))
+    for i in range(1, len(page)):
+        m(page[:i], page[i:]), m(page[:i] + more)
+    for info in (b"1\r" + b"A" * 247 + b"\r", b"1\r" + b"A" * 300 + b"\r", b"\r" * 251, b"~" * 249 + b"\r"):
+        some = [bytes(map(with_parity, block(*x))) for x in cut(info)]
+        m(*some, bye), m(b"".join(some) + bye), m(*anyhow(rng, b"?".join(some), 5)), m(*divided(some[0] + bye, *range(10, 260, 10)))
+    # the limit of 256: an ending at every late place, or none
+    for i in range(247, 259):
+        data = b"\x02" + b"A" * (i - 1) + bytes([(ETX, 0x97, US)[i % 3]]) + b"0123\r" + bye
+        m(data), m(*divided(data, i)), m(*divided(data, i + 1)), m(*divided(data, i + 4)), m(*divided(data, *range(i - 8, i + 8)))
+    for n in (254, 255, 256, 257, 512, 600):
+        for data in (b"\x02" + b"A" * 599, b"\x82" * 600):
+            m(data[:n]), m(data[:255], data[255:n]), m(*divided(data[:n], *range(24, n, 24)))
+    # what a byte is, by its low seven bits; STX and EOT inside
+    noise, inner = bytes(x for x in range(256) if x & 0x7F not in (STX, EOT)), bytes(x for x in range(256) if x & 0x7F not in ENDINGS.values())
+    m(noise), m(noise[:100], noise[100:] + bye), m(b"\x02" + inner), m(b"\x82" + inner + b"\x9f" + noise), m(b"\x02", inner, b"\x97012", b"3"), m(b"\x02" + inner[3:], b"\x03", b"\x040\x042")
+    for first, e in itertools.product((STX, 0x82), (ETX, 0x83, ETB, 0x97, US, 0x9F)):
+        m(bytes([first, e]) + b"01234"), m(bytes([first]) + b"A\x04\x02", bytes([e]) + b"\x02\x84\x82\x04\r")
+    for first, second in itertools.product((EOT, 0x84), (EOT, 0x84, STX, ETX, 0x97, CR, 0x8D, 0, 0xFF)):
+        m(bytes([first, second, second]) + b"A")
+    # saved states in range: with no ending, with one and up to three characters behind it, up to 255 bytes
+    some = [b"\x02", b"\x82", b"\x04", b"\x84", b"\x02\x04", b"\x02\x02\x82", b"\x82\xff"] + [b"\x02" + b"A" * i for i in (3, 4, 250, 251, 254)]
+    some += [b"\x02" + b"A" * i + e + b"0\x1f2"[:k] for i, e in ((0, b"\x83"), (2, b"\x1f"), (249, b"\x17"), (250, b"\x03")) for k in range(4)] + [b"\x02" + b"A" * 253 + b"\x03"]
+    assert all(framer_in_range(x.ljust(256, b"\0"), len(x)) for x in some)
+    for held in some:
+        m(b"", b"A", held=held), m(b"\x03", held=held), m(b"012\x17", b"567\r" + bye, held=held)
+    for n in (1, 2, 5, 254, 255):
+        m(b"\x03", b"012\r", held=b"\x02", n=n)
+    # and out of range: no string begins so, one is complete, 256 or more, or another byte than 0 behind
+    wrong = [(x, len(x)) for x in (b"\0", b"A", b"\r\x02", b"\x83", b"\xc2", b"B\x02", b"\x44", b"\x12")]
+    wrong += [(x, len(x)) for x in (bye, b"\x84\x84", b"\x04\0", bye + b"A", page, page + b"A", page + bye, b"\x02\x830123", b"\x02\x1f01234", b"\x02A\x17\x03123", b"\x02" + b"A" * 249 + b"\x030123",
+                                    b"\x02\x03" + b"A" * 253, b"\x02" + b"A" * 255, b"\x02" + b"A" * 250 + b"\x030123")]
+    wrong += [(x, n) for x in (b"", b"\x02", b"\x02" + b"A" * 255) for n in (256, 257, 65535)]
+    wrong += [(b"A", 0), (b"\x02", 0), (b"\x02A", 1), (b"\x04\r", 1), (b"\x04\0\x01", 1), (page[:8], 7), (page, 13), (b"\x02" + b"A" * 254, 254), (b"\x02" + b"A" * 255, 255), (bytes(255) + b"\x80", 0),
+              (b"\x02" + bytes(254) + b"\x01", 1), (b"\x02" + bytes(254) + b"\x01", 255), (b"\x82A\x03" + bytes(9) + b"\x02", 3)]
+    assert not any(framer_in_range(x.ljust(256, b"\0"), n) for x, n in wrong)
+    for held, n in wrong:
+        m(page + bye, b"", held=held, n=n), m(b"\r", held=held, n=n, room=255)
+    # outputs; both refusals at once
+    for room, held in itertools.product((0, 1, 255, 256, 257, 65535), (b"", page[:9], b"A", page)):
+        m(page + bye, b"\x02", held=held, room=room), m(b"", held=held, room=room)
+    # all kinds
+    for _ in range(300):
+        letters = rng.choice((b"\x02\x03\x04A", b"\x82\x83\x84\x17\x97\x1f\x9fA\r", b"\x02\x82\x04\x84\x03\0\xff\r", b"\x02AAAAA\x9f"))
+        held = rng.choice((b"", b"", b"\x02", b"\x82A\x97", b"\x02A\x03\x02", b"\x84", bytes(rng.choices(letters, k=rng.randint(1, 5)))))
+        m(*anyhow(rng, bytes(rng.choices(letters, k=rng.randint(1, 20))), 4), held=held, n=len(held) + (rng.random() < 0.05), room=rng.choice((256,) * 15 + (255,)))
+    for _ in range(60):
+        data = b"".join(bytes([rng.choice(b"\x02\x02\x82\x04AAA\x03\x17\x9f")]) * rng.choice((1, 1, 2, 5, 60, 120, 230, 248)) for _ in range(rng.randint(2, 7)))
+        m(*anyhow(rng, b"\x02" + b"A" * rng.choice((0, 0, 200, 240, 245, 248)) + data, 4))
+
+
 # ── the program blocks ──
 def listing(text):
     if len(text) > 1999:
@@ -1090,6 +1251,7 @@ def main():
     central_steps(rng)
     device_steps(rng)
     walks()
+    framing(rng)
     crates = os.path.join(os.path.dirname(os.path.abspath(__file__)), "..", "crates")
     vectors = ["\n".join(rows + [""]).encode() for rows in (calls, answers)]
     for crate, files in (("vectors", vectors), ("blocks", program)):

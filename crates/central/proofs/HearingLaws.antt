@@ -102,7 +102,7 @@ recognized-read t g = choice (Reads (readBlock t) g) (same t (EOT ∷ CR ∷ [])
     go (refused n) = choice (Reads (refused n) g) (eqb n 6) (λ _ e. cc) (λ _ e. cc)
 
 -- a string heard as a block is, without parity, a block that reads
-heard-read : (string : List ℕ) (g : Segment) → heard Block string ≡ block g → (t : List ℕ) × (parityOff string 256 ≡ done t) × (readBlock t ≡ done g)
+pub heard-read : (string : List ℕ) (g : Segment) → heard Block string ≡ block g → (t : List ℕ) × (parityOff string 256 ≡ done t) × (readBlock t ≡ done g)
 unfolding heard
 heard-read [] g e = let z : _≡_ {A = ℕ} 0 1 = cc in absurd (omega arith)
 heard-read (b ∷ bs) g e = go (parityOff (b ∷ bs) 256) e

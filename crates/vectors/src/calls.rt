@@ -16,6 +16,8 @@ use crate::ends::PAGERS;
 use crate::ends::list_pagers;
 use crate::ends::print_conversation;
 use crate::ends::print_play;
+use crate::framing::ROOM;
+use crate::framing::print_framing;
 use crate::names;
 use crate::names::COMMA;
 use crate::names::NOTHING;
@@ -119,18 +121,9 @@ fn loan_of(call: &[u8]) -> Loan
             room: number(call, 10),
             filler: 0,
         },
-        b'e' => Loan {
-            size: 0,
-            word: 0,
-            room: 512,
-            filler: FILLER,
-        },
-        b'g' => Loan {
-            size: 0,
-            word: 0,
-            room: number(call, 8),
-            filler: FILLER,
-        },
+        b'e' => output_of(512),
+        b'g' => output_of(number(call, 8)),
+        b'm' => output_of(number(call, ROOM)),
         _ => Loan {
             size: number(call, 1),
             word: 2,
@@ -140,12 +133,25 @@ fn loan_of(call: &[u8]) -> Loan
     }
 }
 
+// An output of a size, and no memory.
+fn output_of(room: usize) -> Loan
+    ensures { λ r. ⌜ (r .size ≡ 0) × (r .room ≡ room) ⌝ }
+{
+    Loan {
+        size: 0,
+        word: 0,
+        room,
+        filler: FILLER,
+    }
+}
+
 // What comes of a call in the memory that it lends.
 fn print_lent(call: &[u8], pagers: &[u32], memory: &mut [u8], out: &mut [u8]) {
     match byte(call, LETTER) {
         b'd' | b'f' => print_conversation(call, pagers, memory, out),
         b'u' => print_run(call, pagers, memory, out),
         b'e' | b'g' => print_play(call, out),
+        b'm' => print_framing(call, out),
         _ => print_output(call, memory),
     }
 }

@@ -1,10 +1,11 @@
 // Makes calls on the proved functions, which standard input has a line each, and prints what comes
-// of each on a line. `tools/vectors.py` writes the calls, with the answers that document 01 has to
-// them, and says how a call is written.
+// of each on a line. `tools/vectors.py` writes the calls, with the answers that documents 01 and 02
+// have to them, and says how a call is written.
 mod answer;
 mod argument;
 mod calls;
 mod ends;
+mod framing;
 mod names;
 mod runs;
 

@@ -1,0 +1,5 @@
+pub mod Framing
+pub mod Kind
+pub mod State
+pub mod Driver
+pub mod Inner

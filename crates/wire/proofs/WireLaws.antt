@@ -1,0 +1,102 @@
+-- What the two ends exchange at the Block stage goes through the framer unaltered: the strings that the device sends there, and every string that the central recognizes as
+-- a block or as a goodbye, are whole; so that the central hears of the framer what it would hear of a driver that cuts.
+use mathlib.Core.Bool.{Bool, true, false, not, false≢true}
+use mathlib.Core.List.{List, [], _∷_, _++_, map}
+use mathlib.Core.Path.{_≡_, refl, sym, ap, _∙_}
+use Prim.Native.Nat.{ℕ, _≤_}
+use native.Mathlib.Omega.{arith}
+use lib.Dec.{ltb, eqb}
+use lib.ListN.{length, getD}
+use Rattle.line.specs.Answer.{Outcome, done, refused}
+use Rattle.line.specs.Character.{CR, EOT}
+use Rattle.line.specs.Parity.{even, withParity, sevenBits, parityOff}
+use Rattle.line.specs.Test.{if_then_else_, all, same}
+use Rattle.line.proofs.OutcomeLaws.{passed, choice}
+use Rattle.line.proofs.SameLaws.{same-equal}
+use Rattle.block.specs.Block.{Segment, readBlock}
+use Rattle.block.proofs.FrameLaws.{read-write}
+use Rattle.journal.specs.Encoding.{allLegal}
+use Rattle.journal.proofs.RecordLaws.{legal-at}
+use Rattle.central.specs.Hearing.{Heard, bye, block, noise, heardBlock, heardText, recognized, heard}
+use Rattle.central.specs.declared.state.Stage.the-variants.{Block}
+use Rattle.central.proofs.HearingLaws.{heard-read}
+use Rattle.device.specs.Reaction.{stringBytes, segmentIn}
+use Rattle.device.specs.Step.{exists}
+use Rattle.device.specs.declared.state.Place.{Place}
+use Rattle.device.specs.declared.state.Settings.{Settings}
+use Rattle.device.specs.declared.state.Step.the-variants.{Sending, Closing}
+use Rattle.device.proofs.JobLaws.{somewhere-parts}
+use Rattle.device.proofs.SegmentsLaws.{segments-right}
+use Rattle.framer.specs.Framing.{Whole, goodbye, beforeFirst, isOpening}
+use Rattle.framer.specs.State.{stateOf}
+use Rattle.framer.specs.Driver.{Drives}
+use Rattle.framer.proofs.BlockLaws.{seven-whole, block-whole, bye-whole}
+use Rattle.framer.proofs.DriverLaws.{whole-alone, skipped-drives}
+
+-- ── What the device sends ──
+
+-- a block of a legal job comes out of the framer unaltered and alone
+pub block-sent : (settings : Settings) (ts : List (List ℕ)) → allLegal ts ≡ true → (p : Place) → exists settings ts (Sending p) ≡ true → Whole (stringBytes settings ts (Sending p))
+block-sent settings ts good p e =
+    let (there, at) = somewhere-parts settings ts p e in
+    let g = segmentIn settings ts p in
+    let (short, fits) = segments-right settings (getD ts (p .transaction) []) (legal-at ts (p .transaction) good there) (p .block) at in
+    block-whole (g .info) (g .ending) short fits
+
+-- so does the goodbye
+pub bye-sent : (settings : Settings) (ts : List (List ℕ)) (p : Place) → Whole (stringBytes settings ts (Closing p))
+bye-sent settings ts p = bye-whole
+
+-- ── What the central recognizes ──
+
+-- what is left without parity is the low seven bits
+off-seven : (s t : List ℕ) (room : ℕ) → parityOff s room ≡ done t → map sevenBits s ≡ t
+unfolding parityOff
+off-seven s t room e =
+    let (_, fits) = passed (ltb room (length s)) 1 _ t e in
+    let (_, is) = passed (not (all even s)) 3 _ t fits in
+    cc
+
+-- a string that the Block stage hears as a block is whole
+pub heard-block-whole : (s : List ℕ) (g : Segment) → heard Block s ≡ block g → Whole s
+heard-block-whole s g e =
+    let (t, off, read) = heard-read s g e in
+    let (is, short, fits) = read-write t g read in
+    seven-whole s (g .info) (g .ending) (off-seven s t 256 off ∙ is) short fits
+
+-- what is heard is a goodbye only if the text is EOT CR
+recognized-bye : (t : List ℕ) → recognized Block t ≡ bye → t ≡ EOT ∷ CR ∷ []
+unfolding recognized
+recognized-bye t = go (same t (EOT ∷ CR ∷ [])) refl (readBlock t)
+  where
+    never : (o : Outcome Segment) → heardBlock o ≡ bye → ⊥
+    never (done g) e = let z : _≡_ {A = ℕ} 0 1 = cc in omega arith
+    never (refused n) e =
+        choice (λ x. x ≡ bye → ⊥) (eqb n 6) (λ _ e. let z : _≡_ {A = ℕ} 0 1 = cc in omega arith) (λ _ e. let z : _≡_ {A = ℕ} 0 1 = cc in omega arith) e
+
+    go : (b : Bool) → same t (EOT ∷ CR ∷ []) ≡ b → (o : Outcome Segment) → (if b then bye else heardBlock o) ≡ bye → t ≡ EOT ∷ CR ∷ []
+    go true equal o e = same-equal t (EOT ∷ CR ∷ []) equal
+    go false equal o e = absurd (never o e)
+
+-- two bytes that are EOT CR on their low seven bits
+two-whole : (s : List ℕ) → map sevenBits s ≡ EOT ∷ CR ∷ [] → Whole s
+two-whole [] e = let z : _≡_ {A = ℕ} 0 1 = cc in absurd (omega arith)
+two-whole (a ∷ []) e = let z : _≡_ {A = ℕ} 0 1 = cc in absurd (omega arith)
+two-whole (a ∷ b ∷ []) e = let first : sevenBits a ≡ EOT = cc in goodbye a b (rw first)
+two-whole (a ∷ b ∷ c ∷ s) e = let z : _≡_ {A = ℕ} 0 1 = cc in absurd (omega arith)
+
+-- a string that the Block stage hears as a goodbye is whole
+pub heard-bye-whole : (s : List ℕ) → heard Block s ≡ bye → Whole s
+unfolding heard
+heard-bye-whole [] e = let z : _≡_ {A = ℕ} 0 1 = cc in absurd (omega arith)
+heard-bye-whole (b ∷ bs) e = go (parityOff (b ∷ bs) 256) refl e
+  where
+    go : (o : Outcome (List ℕ)) → parityOff (b ∷ bs) 256 ≡ o → heardText Block o ≡ bye → Whole (b ∷ bs)
+    go (done t) off e = two-whole (b ∷ bs) (off-seven (b ∷ bs) t 256 off ∙ recognized-bye t e)
+    go (refused n) off e = let z : _≡_ {A = ℕ} 0 1 = cc in absurd (omega arith)
+
+-- ── Through the framer ──
+
+-- a whole string among bytes that begin none, met with nothing held, is what the driver hands over, alone: what a driver that cuts would have
+pub cut-out : {s : List ℕ} → Whole s → (before : List ℕ) → beforeFirst isOpening before ≡ length before → Drives (stateOf []) ((before ++ s) ∷ []) (s ∷ []) (stateOf [])
+cut-out w before none-opens = skipped-drives (whole-alone w) before none-opens
