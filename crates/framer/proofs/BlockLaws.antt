@@ -1,17 +1,17 @@
 -- Blocks and goodbyes are whole strings: information holds no ending, so that the first ending behind STX is the block's own. So a block that meets nothing held comes
 -- out unaltered and alone, and blocks one behind the other come out as they are.
-use mathlib.Core.Bool.{Bool, true, false, not, _&&_, _||_, false≢true, and-eq-true-iff}
+use mathlib.Core.Bool.{Bool, true, false, not, _||_, false≢true, and-eq-true-iff}
 use mathlib.Core.List.{List, [], _∷_, _++_, map}
 use mathlib.Core.Path.{_≡_, refl, sym, ap, _∙_}
-use Prim.Native.Nat.{ℕ, _+_, _≤_, min}
+use Prim.Native.Nat.{ℕ, _+_, _≤_}
 use native.Mathlib.Omega.{arith}
 use borrow.Author.Tests.{eqb-true}
 use lib.Count.{ones}
 use lib.Dec.{eqb}
 use lib.ListN.{length, length-map}
-use Rattle.line.specs.Character.{STX, ETX, ETB, US, CR, EOT, seven, textual}
+use Rattle.line.specs.Character.{STX, ETX, ETB, US, CR, EOT, textual}
 use Rattle.line.specs.Parity.{withParity, sevenBits}
-use Rattle.line.specs.Test.{if_then_else_, all}
+use Rattle.line.specs.Test.{all}
 use Rattle.line.proofs.AllLaws.{all-weaken}
 use Rattle.line.proofs.ParityLaws.{all-without-with}
 use Rattle.block.specs.Block.{endingCharacter, summed, blockOf, right, agrees, ends}
@@ -19,7 +19,7 @@ use Rattle.block.specs.Checksum.{checksum, checkCharacters}
 use Rattle.block.specs.declared.frame.Ending.{Ending}
 use Rattle.block.specs.declared.frame.Ending.the-variants.{Etx, Etb, Us}
 use Rattle.block.proofs.FrameLaws.{block-length, block-frame, write-read, read-done}
-use Rattle.framer.specs.Framing.{is, isOpening, isEnding, beforeFirst, size, Whole, goodbye}
+use Rattle.framer.specs.Framing.{isEnding, beforeFirst, size, Whole, goodbye}
 use Rattle.framer.proofs.FirstLaws.{first-behind, first-map}
 use Rattle.framer.proofs.WholeLaws.{exact-whole}
 

@@ -1,15 +1,15 @@
 -- Laws of driving: from a state in range all pieces can be fed, and whatever pieces the same bytes come in, the strings handed over and the state left are the same.
 -- Two neighbouring pieces can be fed as one, so all can, and one piece drives in one way only. With it: whole strings come out one by one, and the start leads to
 -- the states in range and to no others.
-use mathlib.Core.Bool.{Bool, true, false}
+use mathlib.Core.Bool.{true}
 use mathlib.Core.List.{List, [], _∷_, _++_, flatten, append-assoc, append-nil, List·Memᴰ, List·Memᴰ·head, List·Memᴰ·tail}
-use mathlib.Core.Option.{Option, none, some}
+use mathlib.Core.Option.{none, some}
 use mathlib.Core.Path.{_≡_, refl, sym, ap, subst, _∙_}
-use Prim.Native.Nat.{ℕ, zero, suc, _+_, _-_, _≤_, _<_}
+use Prim.Native.Nat.{ℕ, zero, suc, _+_, _≤_}
 use native.Mathlib.Omega.{arith}
 use lib.ListN.{length, drop, length-append, length-drop}
 use lib.Seq.{drop-append-le, drop-append-add, drop-append-seam}
-use Rattle.line.specs.Answer.{Outcome, done}
+use Rattle.line.specs.Answer.{done}
 use Rattle.framer.specs.Framing.{isOpening, beforeFirst, Feeding, fed, unfinished, Whole}
 use Rattle.framer.specs.Inner.{later}
 use Rattle.framer.specs.State.{stateOf, heldIn, inRange, fedTo, Reached, begun, onward, emptied}

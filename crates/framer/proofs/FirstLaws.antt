@@ -1,5 +1,5 @@
 -- Laws of `beforeFirst`, the place of the first byte that passes a test: as a loop looks for it, that it lies within the bytes, what stands there and before it, over an append, in a part, and over a map.
-use mathlib.Core.Bool.{Bool, true, false, not, _&&_, false≢true}
+use mathlib.Core.Bool.{Bool, true, false, not, false≢true}
 use mathlib.Core.List.{List, [], _∷_, _++_, map}
 use mathlib.Core.Path.{_≡_, refl, ap, _∙_}
 use Prim.Native.Nat.{ℕ, zero, suc, _+_, _≤_, _<_, min}

@@ -1,31 +1,26 @@
 -- Laws of framing. How long a string is to be does not change by bytes that come behind its end, nor falls to what is held; so bytes that come in two pieces
 -- are framed as if they came in one (`fed-later`, `fed-sooner`), and the strings handed over are the whole ones (`whole-fed`, `fed-whole`).
-use mathlib.Core.Bool.{Bool, true, false, not, _&&_, _||_, false≢true, and-eq-true-iff}
+use mathlib.Core.Bool.{Bool, true, false, and-eq-true-iff}
 use mathlib.Core.List.{List, [], _∷_, _++_, append-assoc}
-use mathlib.Core.Logic.{_⊎_, inl, inr, ⊎-elim}
-use mathlib.Core.Option.{Option, none, some}
+use mathlib.Core.Logic.{⊎-elim}
+use mathlib.Core.Option.{none, some}
 use mathlib.Core.Path.{_≡_, refl, sym, ap, _∙_}
-use Prim.Native.Nat.{ℕ, zero, suc, _+_, _-_, _≤_, _<_, min}
+use Prim.Native.Nat.{ℕ, suc, _+_, _-_, _≤_, _<_, min}
 use native.Mathlib.Nat.{eq-or-lt-of-le}
 use native.Mathlib.Numerals.{add-one}
 use native.Mathlib.Omega.{arith}
 use borrow.Author.Tests.{le-leb, lt-leb, leb-true, leb-false, ltb-true, lt-ltb}
-use lib.Dec.{leb, ltb, eqb}
-use lib.ListN.{length, getD, take, drop, length-append, length-drop, length-take}
-use lib.Seq.{take-length, take-append-le, drop-append-le, drop-append-add, drop-cons, take-all, drop-length, split-at, take-append-add}
-use Rattle.line.specs.Test.{if_then_else_, all}
-use Rattle.line.specs.Character.{STX, EOT}
+use lib.Dec.{leb, ltb}
+use lib.ListN.{length, getD, take, drop, length-append, length-drop}
+use lib.Seq.{take-append-le, drop-append-le, drop-append-add, drop-cons, drop-length, take-append-add}
+use Rattle.line.specs.Test.{if_then_else_}
+use Rattle.line.specs.Character.{EOT}
 use Rattle.line.proofs.OutcomeLaws.{choice}
-use Rattle.framer.specs.Framing.{is, isOpening, isEnding, beforeFirst, size, Feeding, fed, unfinished, Whole, goodbye, block, full}
+use Rattle.framer.specs.Framing.{is, isOpening, isEnding, beforeFirst, size, Feeding, fed, unfinished}
 use Rattle.framer.specs.Inner.{later}
 use Rattle.framer.proofs.FirstLaws.{first-within, first-passes, first-absent, first-behind, first-kept, first-least}
 
 -- ── How long a string is to be ──
-
--- what holds of two where it begins with EOT, and else of the length by the first ending
-size-cases : (b : ℕ) (bs : List ℕ) (P : ℕ → Type 0) → (is EOT b ≡ true → P 2) → (is EOT b ≡ false → P (min 256 (beforeFirst isEnding bs + 6))) → P (size (b ∷ bs))
-unfolding size
-size-cases b bs P = choice P (is EOT b)
 
 -- two characters at least, 256 at most
 pub size-bounds : (t : List ℕ) → (2 ≤ size t) × (size t ≤ 256)
@@ -72,7 +67,7 @@ fed-from h p k t e d = rw (e, d)
 
 module _ (k : ℕ) (t : List ℕ) (n m : ℕ) where
   -- no string yet: the string is to be longer than what is left, which is held
-  pub from-none : fedFrom k t n m .string ≡ none → (length t < size t) × (fedFrom k t n m ≡ record { string = none; used = m; held = t })
+  from-none : fedFrom k t n m .string ≡ none → (length t < size t) × (fedFrom k t n m ≡ record { string = none; used = m; held = t })
   from-none = go (leb (size t) (length t)) refl
     where
       go : (b : Bool) → leb (size t) (length t) ≡ b → chosen b k t n m .string ≡ none → (length t < size t) × (chosen b k t n m ≡ record { string = none; used = m; held = t })
@@ -80,21 +75,14 @@ module _ (k : ℕ) (t : List ℕ) (n m : ℕ) where
       go false e h = (leb-false (size t) (length t) e, refl)
 
   -- a string: what is left is at least as long as it is to be
-  pub from-some : (s : List ℕ) → fedFrom k t n m .string ≡ some s →
-      (size t ≤ length t) × (fedFrom k t n m ≡ record { string = some (take (size t) t); used = k + size t - n; held = [] }) × (take (size t) t ≡ s)
+  from-some : (s : List ℕ) → fedFrom k t n m .string ≡ some s →
+      (size t ≤ length t) × (fedFrom k t n m ≡ record { string = some (take (size t) t); used = k + size t - n; held = [] })
   from-some s = go (leb (size t) (length t)) refl
     where
       go : (b : Bool) → leb (size t) (length t) ≡ b → chosen b k t n m .string ≡ some s →
-          (size t ≤ length t) × (chosen b k t n m ≡ record { string = some (take (size t) t); used = k + size t - n; held = [] }) × (take (size t) t ≡ s)
-      go true e h = (leb-true (size t) (length t) e, refl, cc)
+          (size t ≤ length t) × (chosen b k t n m ≡ record { string = some (take (size t) t); used = k + size t - n; held = [] })
+      go true e h = (leb-true (size t) (length t) e, refl)
       go false e h = let z : _≡_ {A = ℕ} 0 1 = cc in absurd (omega arith)
-
--- what is left, where anything is, begins with STX or EOT
-left-opens : (x : List ℕ) → beforeFirst isOpening x < length x →
-    (b : ℕ) × (bs : List ℕ) × (isOpening b ≡ true) × (drop (beforeFirst isOpening x) x ≡ b ∷ bs)
-left-opens x h =
-    let k = beforeFirst isOpening x in
-    (getD x k 0, drop (suc k) x, first-passes isOpening x h, drop-cons x k 0 h)
 
 -- a string that begins at once is left whole
 pub opens-first : (b : ℕ) (bs : List ℕ) → isOpening b ≡ true → beforeFirst isOpening (b ∷ bs) ≡ 0
@@ -134,76 +122,64 @@ module _ (p : List ℕ) (none-opens : beforeFirst isOpening p ≡ length p) wher
       from-later (length p + k) (drop k q) 0 (length (p ++ q)) k 0 (length q) (length p) (length-append p q) (omega arith) ∙
       ap (later (length p)) (sym (fed-from [] q k (drop k q) refl refl))
 
--- a string has begun in what is held and what came: it begins with b, and bs stands behind it
-module _ (h p : List ℕ) (b : ℕ) (bs : List ℕ) (opens : isOpening b ≡ true) (inside : beforeFirst isOpening (h ++ p) < length (h ++ p)) (left : drop (beforeFirst isOpening (h ++ p)) (h ++ p) ≡ b ∷ bs) where
-  -- where it begins
-  k : ℕ
-  k = beforeFirst isOpening (h ++ p)
+-- where a string begins in what is held and what comes
+pub data Beginning (h p : List ℕ) : Type 0 where
+  -- nothing is held, and nothing that begins one comes
+  nowhere : h ≡ [] → beforeFirst isOpening p ≡ length p → Beginning h p
+  -- at k, with b, and bs stands behind it
+  somewhere : (k b : ℕ) (bs : List ℕ) → beforeFirst isOpening (h ++ p) ≡ k → k < length (h ++ p) → drop k (h ++ p) ≡ b ∷ bs → isOpening b ≡ true → Beginning h p
 
-  -- the bytes that are left, by number
-  left-length : length (b ∷ bs) + k ≡ length h + length p
-  unfolding k
-  left-length = omega (arith, length-drop (beforeFirst isOpening (h ++ p)) (h ++ p), ap length left, length-append h p)
+pub beginning : (h p : List ℕ) → unfinished h ≡ true → Beginning h p
+beginning [] p u = ⊎-elim (nowhere refl)
+    (λ inside. let k = beforeFirst isOpening p in somewhere k (getD p k 0) (drop (suc k) p) refl inside (drop-cons p k 0 inside) (first-passes isOpening p inside))
+    (eq-or-lt-of-le (first-within isOpening p))
+beginning (b ∷ bs) p u = let opens = held-opens b bs u .0 in somewhere 0 b (bs ++ p) (opens-first b (bs ++ p) opens) (omega arith) refl opens
 
+-- it begins at k, with b, and bs stands behind it
+module _ (h p : List ℕ) (k b : ℕ) (bs : List ℕ) (place : beforeFirst isOpening (h ++ p) ≡ k) (inside : k < length (h ++ p)) (left : drop k (h ++ p) ≡ b ∷ bs) (opens : isOpening b ≡ true) where
   -- what comes behind does not change where it begins
   fed-more : (q : List ℕ) → fed h (p ++ q) ≡ fedFrom k (b ∷ bs ++ q) (length h) (length (p ++ q))
-  unfolding k
   fed-more q =
-      let n = beforeFirst isOpening (h ++ p) in
-      let place : beforeFirst isOpening (h ++ (p ++ q)) ≡ n = rw (← append-assoc) (first-kept isOpening (h ++ p) q inside) in
-      let behind : drop n (h ++ (p ++ q)) ≡ b ∷ bs ++ q = rw (← append-assoc, drop-append-le n (h ++ p) q (omega arith), left) in
-      fed-from h (p ++ q) n (b ∷ bs ++ q) place behind
+      let kept : beforeFirst isOpening (h ++ (p ++ q)) ≡ k = rw (← append-assoc) (first-kept isOpening (h ++ p) q (rw place inside) ∙ place) in
+      let behind : drop k (h ++ (p ++ q)) ≡ b ∷ bs ++ q = rw (← append-assoc, drop-append-le k (h ++ p) q (omega arith), left) in
+      fed-from h (p ++ q) k (b ∷ bs ++ q) kept behind
 
   -- it goes on: what comes behind is fed to what is held of it
-  begun-later : fed h p .string ≡ none → (q : List ℕ) → (fed h p .held ≡ b ∷ bs) × (length (b ∷ bs) < size (b ∷ bs)) × (fed h (p ++ q) ≡ later (length p) (fed (b ∷ bs) q))
-  unfolding k
+  begun-later : fed h p .string ≡ none → (q : List ℕ) → (fed h p .held ≡ b ∷ bs) × (fed h (p ++ q) ≡ later (length p) (fed (b ∷ bs) q))
   begun-later e q =
-      let n = beforeFirst isOpening (h ++ p) in
-      let now = fed-from h p n (b ∷ bs) refl left in
-      let (short, is) = from-none n (b ∷ bs) (length h) (length p) (rw now at e) in
-      let next : fed (b ∷ bs) q ≡ fedFrom 0 (b ∷ bs ++ q) (length (b ∷ bs)) (length q) = fed-from (b ∷ bs) q 0 (b ∷ bs ++ q) (opens-first b (bs ++ q) opens) refl in
+      let t = b ∷ bs ++ q in
+      let now = fed-from h p k (b ∷ bs) place left in
+      let (short, is) = from-none k (b ∷ bs) (length h) (length p) (rw now at e) in
+      let next : fed (b ∷ bs) q ≡ fedFrom 0 t (length (b ∷ bs)) (length q) = fed-from (b ∷ bs) q 0 t (opens-first b (bs ++ q) opens) refl in
       let longer = size-longer b bs q short in
-      let used : n + size (b ∷ bs ++ q) - length h ≡ length p + (0 + size (b ∷ bs ++ q) - length (b ∷ bs)) = omega (arith, left-length) in (
-        ap (λ f. f .held) (now ∙ is),
-        short,
-        fed-more q ∙ from-later n (b ∷ bs ++ q) (length h) (length (p ++ q)) 0 (length (b ∷ bs)) (length q) (length p) (length-append p q) used ∙ ap (later (length p)) (sym next),
-      )
+      let count : length (b ∷ bs) + k ≡ length h + length p = omega (arith, length-drop k (h ++ p), ap length left, length-append h p) in
+      let used : k + size t - length h ≡ length p + (0 + size t - length (b ∷ bs)) = omega arith in
+      let same = from-later k t (length h) (length (p ++ q)) 0 (length (b ∷ bs)) (length q) (length p) (length-append p q) used in
+      (ap (λ f. f .held) (now ∙ is), fed-more q ∙ same ∙ ap (later (length p)) (sym next))
 
   -- it has ended: what comes behind changes nothing
   begun-sooner : (s : List ℕ) → fed h p .string ≡ some s → (q : List ℕ) → fed h (p ++ q) ≡ fed h p
-  unfolding k
   begun-sooner s e q =
-      let n = beforeFirst isOpening (h ++ p) in
-      let now = fed-from h p n (b ∷ bs) refl left in
-      let (ended, is, _) = from-some n (b ∷ bs) (length h) (length p) s (rw now at e) in
-      let kept = size-kept b bs q ended in
+      let now = fed-from h p k (b ∷ bs) place left in
+      let (ended, is) = from-some k (b ∷ bs) (length h) (length p) s (rw now at e) in
       let within : size (b ∷ bs) ≤ length (b ∷ bs ++ q) = omega (arith, length-append (b ∷ bs) q) in
-      fed-more q ∙ rw (kept, le-leb (size (b ∷ bs)) (length (b ∷ bs ++ q)) within, take-append-le (size (b ∷ bs)) (b ∷ bs) q ended) (sym (now ∙ is))
-
--- what is held, as the two pieces see it: a string has begun in it and in what came, or nothing was held and nothing that begins a string came
-abbrev pub Begins : List ℕ → List ℕ → Type 0
-Begins h p = (b : ℕ) × (bs : List ℕ) × (isOpening b ≡ true) × (beforeFirst isOpening (h ++ p) < length (h ++ p)) × (drop (beforeFirst isOpening (h ++ p)) (h ++ p) ≡ b ∷ bs)
-
-pub begins : (h p : List ℕ) → unfinished h ≡ true → ((h ≡ []) × (beforeFirst isOpening p ≡ length p)) ⊎ Begins h p
-begins [] p u = ⊎-elim (λ none. inl (refl, none)) (λ inside. let (b, bs, opens, left) = left-opens p inside in inr (b, bs, opens, inside, left)) (eq-or-lt-of-le (first-within isOpening p))
-begins (b ∷ bs) p u =
-    let opens = held-opens b bs u .0 in
-    let first = opens-first b (bs ++ p) opens in
-    inr (b, bs ++ p, opens, rw first (omega arith), rw first)
+      fed-more q ∙ rw (size-kept b bs q ended, le-leb (size (b ∷ bs)) (length (b ∷ bs ++ q)) within, take-append-le (size (b ∷ bs)) (b ∷ bs) q ended) (sym (now ∙ is))
 
 -- bytes that completed no string, and bytes behind them: as if these had come to what is held
 pub fed-later : (h p q : List ℕ) → unfinished h ≡ true → fed h p .string ≡ none → fed h (p ++ q) ≡ later (length p) (fed (fed h p .held) q)
-fed-later h p q u e = ⊎-elim
-    (λ (x : (h ≡ []) × (beforeFirst isOpening p ≡ length p)). rw (x .0, fed-skipped p (x .1)) (skipped-later p (x .1) q))
-    (λ (x : Begins h p). let (b, bs, opens, inside, left) = x in let (held, _, is) = begun-later h p b bs opens inside left e q in rw held is)
-    (begins h p u)
+fed-later h p q u e = go (beginning h p u)
+  where
+    go : Beginning h p → fed h (p ++ q) ≡ later (length p) (fed (fed h p .held) q)
+    go (nowhere none-held none-opens) = rw (none-held, fed-skipped p none-opens) (skipped-later p none-opens q)
+    go (somewhere k b bs place inside left opens) = let (held, is) = begun-later h p k b bs place inside left opens e q in rw held is
 
 -- bytes that completed a string, and bytes behind them: these change nothing
 pub fed-sooner : (h p q s : List ℕ) → unfinished h ≡ true → fed h p .string ≡ some s → fed h (p ++ q) ≡ fed h p
-fed-sooner h p q s u e = ⊎-elim
-    (λ (x : (h ≡ []) × (beforeFirst isOpening p ≡ length p)). let z : _≡_ {A = ℕ} 0 1 = cc (x .0, fed-skipped p (x .1)) in absurd (omega arith))
-    (λ (x : Begins h p). let (b, bs, opens, inside, left) = x in begun-sooner h p b bs opens inside left s e q)
-    (begins h p u)
+fed-sooner h p q s u e = go (beginning h p u)
+  where
+    go : Beginning h p → fed h (p ++ q) ≡ fed h p
+    go (nowhere none-held none-opens) = let z : _≡_ {A = ℕ} 0 1 = cc (fed-skipped p none-opens) in absurd (omega arith)
+    go (somewhere k b bs place inside left opens) = begun-sooner h p k b bs place inside left opens s e q
 
 -- ── What is held, and what is used ──
 

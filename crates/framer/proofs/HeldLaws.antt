@@ -1,16 +1,16 @@
 -- Laws of what is held, as the code tests it and goes on from it: of a string from STX on, no ending stands before the last four bytes held.
-use mathlib.Core.Bool.{Bool, true, false, not, _&&_, _||_, and-false}
+use mathlib.Core.Bool.{Bool, true, false, not, _&&_, and-false}
 use mathlib.Core.List.{List, [], _∷_, _++_}
 use mathlib.Core.Path.{_≡_, refl, sym, ap, _∙_}
-use Prim.Native.Nat.{ℕ, zero, suc, _+_, _-_, _≤_, _<_, min}
+use Prim.Native.Nat.{ℕ, _+_, _-_, _≤_, _<_, min}
 use native.Mathlib.Omega.{arith}
-use borrow.Author.Tests.{le-leb, lt-leb, leb-true, leb-false, ltb-true, ltb-false, lt-ltb, le-ltb, eq-eqb, ne-eqb}
-use lib.Dec.{leb, ltb, eqb}
+use borrow.Author.Tests.{leb-true, leb-false, ltb-true, ltb-false, lt-ltb, le-ltb, ne-eqb}
+use lib.Dec.{leb, ltb}
 use lib.ListN.{length, getD, take, drop, length-drop}
 use lib.Seq.{drop-drop}
 use Rattle.line.specs.Character.{STX, EOT}
 use Rattle.line.specs.Parity.{sevenBits}
-use Rattle.line.specs.Test.{if_then_else_, all}
+use Rattle.line.specs.Test.{all}
 use Rattle.line.proofs.ListLaws.{length-none}
 use Rattle.framer.specs.Framing.{is, isOpening, isEnding, beforeFirst, size, unfinished}
 use Rattle.framer.proofs.FirstLaws.{first-within, first-absent, first-behind, first-kept, first-all, first-from, first-take}

@@ -1,26 +1,26 @@
 -- Laws of the saved state: a state in range is that of the bytes it holds, which can be held; the start leads to these states and to no others; and the ways
 -- to have `Feeds` and `Flushes`.
-use mathlib.Core.Bool.{Bool, true, false, not, _&&_, and-eq-true-iff, and-false}
-use mathlib.Core.List.{List, [], _∷_, _++_}
-use mathlib.Core.Option.{Option, none, some}
-use mathlib.Core.Path.{_≡_, refl, sym, ap, _∙_}
-use Prim.Native.Nat.{ℕ, zero, suc, _+_, _-_, _≤_, _<_}
+use mathlib.Core.Bool.{true, false, not, and-eq-true-iff}
+use mathlib.Core.List.{List, [], _∷_}
+use mathlib.Core.Option.{none, some}
+use mathlib.Core.Path.{_≡_, refl, sym, _∙_}
+use Prim.Native.Nat.{ℕ, zero, suc, _-_, _≤_, _<_}
 use native.Mathlib.Nat.{zero-add}
 use native.Mathlib.Omega.{arith}
-use borrow.Author.Tests.{lt-ltb, le-ltb, ltb-false, not-false, not-true, eqb-true}
+use borrow.Author.Tests.{lt-ltb, le-ltb, ltb-false, not-false, eqb-true}
 use lib.Dec.{eqb, ltb}
-use lib.ListN.{length, take, drop, replicate, length-take, length-drop, length-replicate, take-append-drop}
+use lib.ListN.{length, drop, replicate, length-take, length-drop, take-append-drop}
 use lib.Seq.{take-all, take-at, drop-at}
-use Rattle.line.specs.Answer.{Outcome, done, refused, refusalNumber, mapDone, overlay, copied, Wrote}
-use Rattle.line.specs.Test.{if_then_else_, all}
+use Rattle.line.specs.Answer.{Outcome, done, refused, refusalNumber, overlay, copied, Wrote}
+use Rattle.line.specs.Test.{all}
 use Rattle.line.specs.declared.answer.Refusal.{Refusal}
 use Rattle.line.specs.declared.answer.Written.{Written}
 use Rattle.line.specs.declared.answer.Written.the-variants.{Refused}
 use Rattle.line.proofs.OutcomeLaws.{passed}
 use Rattle.line.proofs.OverlayLaws.{overlay-none, overlay-start, wrote-refused}
-use Rattle.framer.specs.Framing.{Feeding, fed, unfinished}
+use Rattle.framer.specs.Framing.{Feeding, unfinished}
 use Rattle.framer.specs.Inner.{refusing, later}
-use Rattle.framer.specs.State.{blank, stateOf, heldIn, inRange, tested, fedTo, flushed, stateAfter, Feeds, Flushes, Reached, begun, onward, emptied}
+use Rattle.framer.specs.State.{blank, stateOf, heldIn, inRange, tested, Feeds, Flushes}
 use Rattle.framer.specs.declared.Framer.{Framer}
 use Rattle.framer.specs.declared.Fed.{Fed}
 use Rattle.framer.specs.declared.Framed.the-variants.{Whole, Partial}

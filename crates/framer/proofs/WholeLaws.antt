@@ -1,24 +1,22 @@
 -- Laws of whole strings: a string is whole exactly if it begins with STX or EOT and is as long as it is to be. So every string that is handed over is whole,
 -- and a whole string that meets nothing held is handed over as it is, whatever comes behind it.
-use mathlib.Core.Bool.{Bool, true, false, not, _||_, or-true, or-false}
+use mathlib.Core.Bool.{Bool, true, false, not, or-true, or-false}
 use mathlib.Core.List.{List, [], _∷_, _++_}
-use mathlib.Core.Logic.{_⊎_, inl, inr, ⊎-elim}
-use mathlib.Core.Option.{Option, none, some}
+use mathlib.Core.Option.{none, some}
 use mathlib.Core.Path.{_≡_, refl, sym, ap, subst, _∙_}
-use Prim.Native.Nat.{ℕ, zero, suc, _+_, _-_, _≤_, _<_, min}
-use native.Mathlib.Nat.{eq-or-lt-of-le}
+use Prim.Native.Nat.{ℕ, suc, _+_, _-_, _≤_, _<_, min}
 use native.Mathlib.Omega.{arith}
 use borrow.Author.Tests.{le-leb, leb-true, leb-false, eqb-true}
-use lib.Dec.{leb, eqb}
+use lib.Dec.{leb}
 use lib.ListN.{length, getD, take, drop, length-append, length-drop, take-append-drop}
 use lib.Seq.{length-take-le, split-at, take-take, take-at}
 use Rattle.line.specs.Character.{STX, EOT}
 use Rattle.line.specs.Parity.{sevenBits}
-use Rattle.line.specs.Test.{if_then_else_, all}
+use Rattle.line.specs.Test.{if_then_else_}
 use Rattle.line.proofs.AllLaws.{all-take}
-use Rattle.framer.specs.Framing.{is, isOpening, isEnding, beforeFirst, size, Feeding, fed, unfinished, Whole, goodbye, block, full}
-use Rattle.framer.proofs.FirstLaws.{first-here, first-within, first-passes, first-before, first-behind}
-use Rattle.framer.proofs.FramingLaws.{size-bounds, size-grows, size-kept, size-longer, fed-from, from-some, from-none, opens-first, held-opens, held-begun, Begins, begins, fed-skipped}
+use Rattle.framer.specs.Framing.{is, isOpening, isEnding, beforeFirst, size, fed, unfinished, Whole, goodbye, block, full}
+use Rattle.framer.proofs.FirstLaws.{first-passes, first-before, first-behind}
+use Rattle.framer.proofs.FramingLaws.{size-bounds, size-grows, size-kept, size-longer, fed-from, opens-first, held-opens, held-begun, Beginning, nowhere, somewhere, beginning, fed-skipped}
 
 -- STX is not EOT
 stx-eot : (s : ℕ) → is STX s ≡ true → is EOT s ≡ false
@@ -115,33 +113,33 @@ pub data Comes (h p : List ℕ) : Type 0 where
   handing : (s : List ℕ) (used : ℕ) → fed h p ≡ record { string = some s; used = used; held = [] } → Whole s → 1 ≤ used → used ≤ length p → Comes h p
 
 -- a string that was to be longer than what was held takes a byte at least
-longer-held : (h p : List ℕ) (b : ℕ) (bs : List ℕ) → unfinished h ≡ true → drop (beforeFirst isOpening (h ++ p)) (h ++ p) ≡ b ∷ bs → length h < beforeFirst isOpening (h ++ p) + size (b ∷ bs)
-longer-held [] p b bs u left = omega (arith, size-bounds (b ∷ bs))
-longer-held (a ∷ xs) p b bs u left =
+longer-held : (h p : List ℕ) (k b : ℕ) (bs : List ℕ) → unfinished h ≡ true → beforeFirst isOpening (h ++ p) ≡ k → drop k (h ++ p) ≡ b ∷ bs → length h < k + size (b ∷ bs)
+longer-held [] p k b bs u place left = omega (arith, size-bounds (b ∷ bs))
+longer-held (a ∷ xs) p k b bs u place left =
     let (opens, short) = held-opens a xs u in
-    let first = opens-first a (xs ++ p) opens in
+    let first : k ≡ 0 = sym place ∙ opens-first a (xs ++ p) opens in
     let same : a ∷ xs ++ p ≡ b ∷ bs = rw first at left in
-    rw (first, ← same) (omega (arith, size-longer a xs p short))
+    rw (← same) (omega (arith, size-longer a xs p short))
 
 -- one of the two
 pub fed-comes : (h p : List ℕ) → unfinished h ≡ true → Comes h p
 unfolding unfinished
-fed-comes h p u = ⊎-elim
-    (λ (x : (h ≡ []) × (beforeFirst isOpening p ≡ length p)). waiting [] (rw (x .0) (fed-skipped p (x .1))) refl)
-    (λ (x : Begins h p). let (b, bs, opens, inside, left) = x in go b bs opens inside left (leb (size (b ∷ bs)) (length (b ∷ bs))) refl)
-    (begins h p u)
+fed-comes h p u = go (beginning h p u)
   where
-    go : (b : ℕ) (bs : List ℕ) → isOpening b ≡ true → beforeFirst isOpening (h ++ p) < length (h ++ p) → drop (beforeFirst isOpening (h ++ p)) (h ++ p) ≡ b ∷ bs →
+    begun : (k b : ℕ) (bs : List ℕ) → beforeFirst isOpening (h ++ p) ≡ k → k < length (h ++ p) → drop k (h ++ p) ≡ b ∷ bs → isOpening b ≡ true →
         (t : Bool) → leb (size (b ∷ bs)) (length (b ∷ bs)) ≡ t → Comes h p
-    go b bs opens inside left true e =
-        let k = beforeFirst isOpening (h ++ p) in
+    begun k b bs place inside left opens true e =
         let ended = leb-true (size (b ∷ bs)) (length (b ∷ bs)) e in
+        let more = longer-held h p k b bs u place left in
         let count = ap length left in
-        let more = longer-held h p b bs u left in
-        handing (take (size (b ∷ bs)) (b ∷ bs)) (k + size (b ∷ bs) - length h) (fed-from h p k (b ∷ bs) refl left ∙ rw e) (taken-whole b bs opens ended)
+        handing (take (size (b ∷ bs)) (b ∷ bs)) (k + size (b ∷ bs) - length h) (fed-from h p k (b ∷ bs) place left ∙ rw e) (taken-whole b bs opens ended)
         (omega arith) (omega (arith, length-drop k (h ++ p), length-append h p))
-    go b bs opens inside left false e =
-        waiting (b ∷ bs) (fed-from h p (beforeFirst isOpening (h ++ p)) (b ∷ bs) refl left ∙ rw e) (held-begun b bs opens (leb-false (size (b ∷ bs)) (length (b ∷ bs)) e))
+    begun k b bs place inside left opens false e =
+        waiting (b ∷ bs) (fed-from h p k (b ∷ bs) place left ∙ rw e) (held-begun b bs opens (leb-false (size (b ∷ bs)) (length (b ∷ bs)) e))
+
+    go : Beginning h p → Comes h p
+    go (nowhere none-held none-opens) = waiting [] (rw none-held (fed-skipped p none-opens)) refl
+    go (somewhere k b bs place inside left opens) = begun k b bs place inside left opens (leb (size (b ∷ bs)) (length (b ∷ bs))) refl
 
 -- every string that is handed over is whole
 pub fed-whole : (h p s : List ℕ) → unfinished h ≡ true → fed h p .string ≡ some s → Whole s

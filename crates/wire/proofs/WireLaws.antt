@@ -1,15 +1,15 @@
 -- What the two ends exchange at the Block stage goes through the framer unaltered: the strings that the device sends there, and every string that the central recognizes as
 -- a block or as a goodbye, are whole; so that the central hears of the framer what it would hear of a driver that cuts.
-use mathlib.Core.Bool.{Bool, true, false, not, false≢true}
+use mathlib.Core.Bool.{Bool, true, false, not}
 use mathlib.Core.List.{List, [], _∷_, _++_, map}
-use mathlib.Core.Path.{_≡_, refl, sym, ap, _∙_}
-use Prim.Native.Nat.{ℕ, _≤_}
+use mathlib.Core.Path.{_≡_, refl, _∙_}
+use Prim.Native.Nat.{ℕ}
 use native.Mathlib.Omega.{arith}
 use lib.Dec.{ltb, eqb}
 use lib.ListN.{length, getD}
 use Rattle.line.specs.Answer.{Outcome, done, refused}
 use Rattle.line.specs.Character.{CR, EOT}
-use Rattle.line.specs.Parity.{even, withParity, sevenBits, parityOff}
+use Rattle.line.specs.Parity.{even, sevenBits, parityOff}
 use Rattle.line.specs.Test.{if_then_else_, all, same}
 use Rattle.line.proofs.OutcomeLaws.{passed, choice}
 use Rattle.line.proofs.SameLaws.{same-equal}
@@ -17,7 +17,7 @@ use Rattle.block.specs.Block.{Segment, readBlock}
 use Rattle.block.proofs.FrameLaws.{read-write}
 use Rattle.journal.specs.Encoding.{allLegal}
 use Rattle.journal.proofs.RecordLaws.{legal-at}
-use Rattle.central.specs.Hearing.{Heard, bye, block, noise, heardBlock, heardText, recognized, heard}
+use Rattle.central.specs.Hearing.{bye, block, heardBlock, heardText, recognized, heard}
 use Rattle.central.specs.declared.state.Stage.the-variants.{Block}
 use Rattle.central.proofs.HearingLaws.{heard-read}
 use Rattle.device.specs.Reaction.{stringBytes, segmentIn}

@@ -1,15 +1,14 @@
 -- `begin` meets its contract: where no byte begins a string all are skipped; else what comes behind the first that does goes on with it.
 use mathlib.Core.Bool.{true}
-use mathlib.Core.List.{List, [], _∷_}
-use mathlib.Core.Path.{_≡_, refl, sym, ap, _∙_}
-use Prim.Native.Nat.{ℕ, _+_, _-_, _≤_, _<_}
+use mathlib.Core.List.{[], _∷_}
+use mathlib.Core.Path.{_≡_, ap, _∙_}
+use Prim.Native.Nat.{_+_, _-_}
 use native.Mathlib.Nat.{zero-add}
 use lib.ListN.{length, getD, take, drop, length-drop}
 use lib.Seq.{take-all}
 use Rattle.line.specs.Answer.{done}
-use Rattle.framer.specs.Framing.{isOpening, beforeFirst, fed, unfinished}
-use Rattle.framer.specs.Inner.{later}
-use Rattle.framer.specs.State.{heldIn, stateOf, inRange}
+use Rattle.framer.specs.Framing.{isOpening, beforeFirst, unfinished}
+use Rattle.framer.specs.State.{heldIn, stateOf}
 use Rattle.framer.proofs.FirstLaws.{first-within, first-passes}
 use Rattle.framer.proofs.FramingLaws.{size-bounds, held-begun, fed-skipped, fed-opened}
 use Rattle.framer.proofs.StateLaws.{state-holds, state-in-range, feeds-none, feeds-done}

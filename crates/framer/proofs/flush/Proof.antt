@@ -1,13 +1,9 @@
 -- `flush` meets its contract: the tests in their order; what is held is copied out, and nothing is held behind it.
 use mathlib.Core.Bool.{true}
-use mathlib.Core.List.{List, []}
-use mathlib.Core.Path.{_≡_, refl, sym, ap, _∙_}
-use Prim.Native.Nat.{_≤_, _<_}
+use mathlib.Core.Path.{_≡_, sym, _∙_}
+use Prim.Native.Nat.{_<_}
 use borrow.Author.Tests.{not-true, not-false}
 use lib.ListN.{length}
-use lib.Seq.{length-take-le}
-use Rattle.line.proofs.CopyLaws.{copied-laid}
-use Rattle.line.proofs.OverlayLaws.{wrote-refused}
 use Rattle.line.specs.declared.answer.Refusal.the-variants.{Size, Range}
 use Rattle.framer.specs.State.{heldIn, inRange}
 use Rattle.framer.proofs.StateLaws.{tested-range, tested-room, tested-done, range-length, flushes-refused, flushes-done}

@@ -1,7 +1,7 @@
 -- `go_on` meets its contract: the string is longer than what is held. Either the bytes are fewer than it wants, and are held too; or it takes as many as it wants, and both parts are copied out.
 use mathlib.Core.Bool.{true}
 use mathlib.Core.List.{_++_}
-use mathlib.Core.Path.{_≡_, refl, sym, ap, _∙_}
+use mathlib.Core.Path.{_≡_, sym, ap, _∙_}
 use Prim.Native.Nat.{_+_, _-_, _≤_, _<_}
 use lib.ListN.{length, take, length-append}
 use lib.Seq.{length-take-le}

@@ -1,7 +1,7 @@
 -- `hold` meets its contract: the bytes are laid over the zeros behind what is held.
 use mathlib.Core.List.{_++_}
-use mathlib.Core.Path.{_≡_, refl, sym, ap, _∙_}
-use Prim.Native.Nat.{_+_, _≤_}
+use mathlib.Core.Path.{_≡_}
+use Prim.Native.Nat.{_+_}
 use lib.ListN.{length, length-append}
 use Rattle.line.proofs.CopyLaws.{copied-part}
 use Rattle.framer.specs.State.{blank, heldIn}

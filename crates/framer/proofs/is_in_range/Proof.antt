@@ -1,6 +1,6 @@
 -- `is_in_range` meets its contract: 256 bytes and more cannot be held; else what is held and what stands behind it are tested.
 use mathlib.Core.Path.{_≡_, sym}
-use Prim.Native.Nat.{_≤_, _-_}
+use Prim.Native.Nat.{_-_}
 use lib.ListN.{length, take, drop, length-drop}
 use lib.Seq.{length-take-le, take-all}
 use Rattle.framer.specs.State.{inRange}

@@ -1,6 +1,6 @@
 -- `is_unfinished` meets its contract: each return is the case of what can be held that the first byte and the length leave.
 use mathlib.Core.Path.{_≡_, sym, _∙_}
-use Prim.Native.Nat.{_≤_, _-_}
+use Prim.Native.Nat.{_-_}
 use lib.ListN.{length}
 use Rattle.framer.proofs.HeldLaws.{held-none, held-eot, held-other, held-few, held-many}
 use borrow.Author.Needs.{needs}

@@ -1,10 +1,8 @@
 -- `open` meets its contract: the byte is laid over the start of the zeros.
-use mathlib.Core.List.{List, []}
 use mathlib.Core.Path.{_≡_, sym, ap, _∙_}
-use lib.ListN.{length, set}
 use Rattle.line.proofs.CopyLaws.{overlay-first}
 use Rattle.line.proofs.OverlayLaws.{overlay-none}
-use Rattle.framer.specs.State.{blank, stateOf}
+use Rattle.framer.specs.State.{blank}
 use Rattle.framer.proofs.StateLaws.{blank-length}
 use borrow.Author.Needs.{needs}
 use native.Mathlib.Omega.{arith}

@@ -1,10 +1,9 @@
 -- `size` meets its contract: from EOT it is two. Else the first ending decides; none stands in what is held before its last four bytes, and none counts past 256.
-use mathlib.Core.Bool.{true}
 use mathlib.Core.Logic.{⊎-elim}
-use mathlib.Core.Path.{_≡_, sym, _∙_}
-use Prim.Native.Nat.{_+_, _-_, _≤_, _<_, min}
+use mathlib.Core.Path.{sym, _∙_}
+use Prim.Native.Nat.{_+_, _-_, _≤_, _<_}
 use lib.ListN.{length, take, length-take}
-use Rattle.framer.specs.Framing.{isEnding, beforeFirst}
+use Rattle.framer.specs.Framing.{isEnding}
 use Rattle.framer.proofs.FirstLaws.{first-within}
 use Rattle.framer.proofs.HeldLaws.{held-short, size-eot, size-held, size-comes}
 use borrow.Author.Needs.{needs}
