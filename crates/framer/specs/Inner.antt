@@ -5,8 +5,7 @@ use mathlib.Core.Path.{_≡_}
 use Prim.Native.Nat.{ℕ, _+_, _≤_}
 use lib.ListN.{length}
 use Rattle.line.specs.declared.answer.Refusal.{Refusal}
-use Rattle.framer.specs.Framing.{Feeding}
-use Rattle.framer.specs.State.{inRange}
+use Rattle.framer.specs.Framing.{Feeding, unfinished}
 use Rattle.framer.specs.declared.Fed.{Fed}
 use Rattle.framer.specs.declared.Framed.the-variants.{Refused}
 use Rattle.framer.specs.declared.Framer.{Framer}
@@ -20,7 +19,7 @@ abbrev pub later : ℕ → Feeding → Feeding
 later n f = record { string = f .string; used = n + f .used; held = f .held }
 
 -- a string has begun, and the output has room for the longest
-pub record Begun (s : Framer) (out : List ℕ) : Type 0 where
-  pub ranged : inRange s ≡ true
-  pub some : 1 ≤ s .length
+pub record Begun (held out : List ℕ) : Type 0 where
+  pub going : unfinished held ≡ true
+  pub some : 1 ≤ length held
   pub room : 256 ≤ length out

@@ -11,14 +11,14 @@ use line::character::EOT;
 use line::character::STX;
 use line::memory::copy;
 ghost use mathlib.Core.Bool.{true};
-ghost use mathlib.Core.List.{[], _∷_, _++_};
+ghost use mathlib.Core.List.{[], _++_};
 ghost use mathlib.Core.Path.{_≡_};
 ghost use Prim.Native.Nat.{_+_, _^_, _<_, _≤_, min};
 ghost use lib.ListN as ListN;
 ghost use Rattle.line.specs.Answer.{done};
 ghost use Rattle.framer.specs.Framing as Framing;
 ghost use Rattle.framer.specs.Inner.{Begun, later, refusing};
-ghost use Rattle.framer.specs.State.{Feeds, Flushes, fedTo, flushed, heldIn, inRange, stateOf};
+ghost use Rattle.framer.specs.State.{Feeds, Flushes, fedTo, flushed, inRange, stateOf};
 
 // The longest string, and the least room that an output has.
 pub const STRING: usize = 256;
@@ -72,14 +72,16 @@ pub fn feed(state: Framer, bytes: &[u8], out: &mut [u8]) -> Fed
         (fedTo state (now (bytes .entry)) (ListN.length (now (out .entry))))
         state r (now (out .entry)) (now (out .exit)) ⌝ }
 {
-    if !is_in_range(state) {
+    let held = state.held;
+    let length = state.length;
+    if !is_in_range(&held, length) {
         return refuse(state, Refusal::Range);
     }
     if out.len() < STRING {
         return refuse(state, Refusal::Size);
     }
-    if 0 < state.length {
-        return go_on(state, bytes, 0, out);
+    if 0 < length {
+        return go_on(&held[..length], bytes, 0, out);
     }
     begin(bytes, out)
 }
@@ -91,7 +93,9 @@ pub fn flush(state: Framer, out: &mut [u8]) -> Flushed
         (flushed state (ListN.length (now (out .entry))))
         state r (now (out .entry)) (now (out .exit)) ⌝ }
 {
-    if !is_in_range(state) {
+    let held = state.held;
+    let length = state.length;
+    if !is_in_range(&held, length) {
         return Flushed {
             outcome: Written::Refused(Refusal::Range),
             state,
@@ -103,8 +107,6 @@ pub fn flush(state: Framer, out: &mut [u8]) -> Flushed
             state,
         };
     }
-    let held = state.held;
-    let length = state.length;
     let outcome = copy(&held[..length], out);
     let emptied = start();
     Flushed {
@@ -140,40 +142,29 @@ fn begin(bytes: &[u8], out: &mut [u8]) -> Fed
         };
     }
     let next = at + 1;
-    go_on(open(bytes[at]), &bytes[next..], next, out)
+    go_on(&bytes[at..next], &bytes[next..], next, out)
 }
 
-// A string begins with this byte.
-fn open(byte: u8) -> Framer
-    ensures { λ r. ⌜ r ≡ stateOf (byte ∷ []) ⌝ }
-{
-    let mut opened = start();
-    opened.held[0] = byte;
-    opened.length = 1;
-    opened
-}
-
-// Bytes behind a string that has begun; so many were used before them.
-fn go_on(state: Framer, bytes: &[u8], before: usize, out: &mut [u8]) -> Fed
-    requires { ⌜ Begun state (now out) × (before + ListN.length (now bytes) < 2 ^ 63) ⌝ }
+// Bytes behind what is held of a string; so many were used before them.
+fn go_on(held: &[u8], bytes: &[u8], before: usize, out: &mut [u8]) -> Fed
+    requires { ⌜ Begun (now held) (now out) × (before + ListN.length (now bytes) < 2 ^ 63) ⌝ }
     ensures { λ r. ⌜
         Feeds
-        (done (later before (Framing.fed (heldIn state) (now (bytes .entry)))))
-        state r (now (out .entry)) (now (out .exit)) ⌝ }
+        (done (later before (Framing.fed (now (held .entry)) (now (bytes .entry)))))
+        (stateOf []) r (now (out .entry)) (now (out .exit)) ⌝ }
 {
-    let held = state.held;
-    let length = state.length;
-    let size = size(&held[..length], bytes);
-    let wanted = size - length;
+    let n = held.len();
+    let size = size(held, bytes);
+    let wanted = size - n;
     if bytes.len() < wanted {
         return Fed {
             outcome: Framed::Partial,
             used: before + bytes.len(),
-            state: hold(state, bytes),
+            state: hold(held, bytes),
         };
     }
-    copy(&held[..length], out);
-    copy(&bytes[..wanted], &mut out[length..]);
+    copy(held, out);
+    copy(&bytes[..wanted], &mut out[n..]);
     Fed {
         outcome: Framed::Whole(size),
         used: before + wanted,
@@ -181,17 +172,19 @@ fn go_on(state: Framer, bytes: &[u8], before: usize, out: &mut [u8]) -> Fed
     }
 }
 
-// These bytes are held too.
-fn hold(state: Framer, bytes: &[u8]) -> Framer
-    requires { ⌜ (inRange state ≡ true) × (state .length + ListN.length (now bytes) ≤ 256) ⌝ }
-    ensures { λ r. ⌜ r ≡ stateOf (heldIn state ++ now (bytes .entry)) ⌝ }
+// Both are held, one behind the other.
+fn hold(held: &[u8], bytes: &[u8]) -> Framer
+    requires { ⌜ ListN.length (now held) + ListN.length (now bytes) ≤ 256 ⌝ }
+    ensures { λ r. ⌜ r ≡ stateOf (now (held .entry) ++ now (bytes .entry)) ⌝ }
 {
-    let mut held = state.held;
-    let length = state.length;
-    copy(bytes, &mut held[length..]);
+    let n = held.len();
+    let empty = start();
+    let mut array = empty.held;
+    copy(held, &mut array);
+    copy(bytes, &mut array[n..]);
     Framer {
-        held,
-        length: length + bytes.len(),
+        held: array,
+        length: n + bytes.len(),
     }
 }
 
@@ -215,14 +208,13 @@ fn size(held: &[u8], bytes: &[u8]) -> usize
 }
 
 // The start can lead to the state.
-fn is_in_range(state: Framer) -> bool
-    ensures { λ r. ⌜ r ≡ inRange state ⌝ }
+fn is_in_range(held: &[u8], length: usize) -> bool
+    requires { ⌜ 256 ≡ ListN.length (now held) ⌝ }
+    ensures { λ r. ⌜ r ≡ inRange (record { held = now (held .entry); length = length }) ⌝ }
 {
-    let length = state.length;
     if STRING <= length {
         return false;
     }
-    let held = state.held;
     is_unfinished(&held[..length]) & are(&held[length..], Kind::Zero)
 }
 

@@ -5,15 +5,15 @@ use mathlib.Core.Path.{_≡_, ap, _∙_}
 use Prim.Native.Nat.{_+_, _-_}
 use native.Mathlib.Nat.{zero-add}
 use lib.ListN.{length, getD, take, drop, length-drop}
-use lib.Seq.{take-all}
+use lib.Seq.{take-all, drop-cons}
 use Rattle.line.specs.Answer.{done}
 use Rattle.framer.specs.Framing.{isOpening, beforeFirst, unfinished}
-use Rattle.framer.specs.State.{heldIn, stateOf}
+use Rattle.framer.specs.State.{stateOf}
 use Rattle.framer.proofs.FirstLaws.{first-within, first-passes}
 use Rattle.framer.proofs.FramingLaws.{size-bounds, held-begun, fed-skipped, fed-opened}
-use Rattle.framer.proofs.StateLaws.{state-holds, state-in-range, feeds-none, feeds-done}
-use borrow.Author.Needs.{needs}
+use Rattle.framer.proofs.StateLaws.{feeds-none, feeds-done}
 use native.Mathlib.Omega.{arith}
+use borrow.Author.Needs.{needs}
 use Rattle.framer.proofs.begin.Statement.{statement}
 use Rattle.framer.proofs.begin.Tie as tie
 
@@ -21,7 +21,18 @@ use Rattle.framer.proofs.begin.Tie as tie
 place : (c : tie.After-seek) → c .seek .result ≡ beforeFirst isOpening (c .before .before .before .args .bytes .now)
 place c = c .seek .ensures ∙ zero-add _
 
--- the byte there can be held
+-- the part from there to the next is the byte there
+first : (c : tie.Else1) →
+    let bytes = c .before .before .before .before .args .bytes .now in
+    let at = c .before .seek .result in
+    take (at + 1 - at) (drop at bytes) ≡ getD bytes at 0 ∷ []
+first c =
+    let bytes = c .before .before .before .before .args .bytes .now in
+    let at = c .before .seek .result in
+    let one : at + 1 - at ≡ 1 = omega arith in
+    rw (one, drop-cons bytes at 0 (c .if1 .left))
+
+-- it can be held
 opens : (c : tie.Else1) → unfinished (getD (c .before .before .before .before .args .bytes .now) (c .before .seek .result) 0 ∷ []) ≡ true
 opens c =
     let bytes = c .before .before .before .before .args .bytes .now in
@@ -56,12 +67,6 @@ returns c =
 add-next : tie.Need-add-next
 add-next c = search needs
 
-shared-slice-read-open : tie.Need-shared-slice-read-open
-shared-slice-read-open c = search needs
-
-open-requires : tie.Need-open-requires
-open-requires c κs = search needs
-
 sub-go-on : tie.Need-sub-go-on
 sub-go-on c = search needs
 
@@ -71,15 +76,21 @@ part-go-on-start c = search needs
 part-go-on-end : tie.Need-part-go-on-end
 part-go-on-end c = search needs
 
+sub-go-on-2 : tie.Need-sub-go-on-2
+sub-go-on-2 c = search needs
+
+part-go-on-start-2 : tie.Need-part-go-on-start-2
+part-go-on-start-2 c = search needs
+
+part-go-on-end-2 : tie.Need-part-go-on-end-2
+part-go-on-end-2 c = search needs
+
 go-on-requires : tie.Need-go-on-requires
 go-on-requires c κs =
-    let o = c .before .before in
-    let e = o .before .before in
+    let e = c .before .before .before in
     let s = e .before .before .before .before in
     let next = e .before .seek .result + 1 in
-    let opened = o .«open» .ensures in
-    let ranged = state-in-range _ (opens e) in
-    (record { ranged = rw opened ranged; some = rw opened (omega arith); room = s .pre }, rw (rest e) (omega (arith, length-drop next (s .args .bytes .now), s .good)))
+    (record { going = rw (first e) (opens e); some = rw (first e) (omega arith); room = s .pre }, rw (rest e) (omega (arith, length-drop next (s .args .bytes .now), s .good)))
 
 same-length : tie.Need-same-length
 same-length c = search needs
@@ -87,14 +98,10 @@ same-length c = search needs
 returns-2 : tie.Need-returns-2
 returns-2 c =
     let g = c .before .before in
-    let o = g .before .before .before in
-    let e = o .before .before in
-    let a = e .before .before .before .before .args in
-    let bytes = a .bytes .now in
-    let at = e .before .seek .result in
-    let held : heldIn (o .«open» .result) ≡ getD bytes at 0 ∷ [] = rw (o .«open» .ensures) (state-holds (getD bytes at 0 ∷ [])) in
-    let same = fed-opened bytes at (place (e .before)) (e .if1 .left) in
-    feeds-done (g .go-on .ensures) (stateOf []) (ap done (same ∙ rw (rest e, held)))
+    let e = g .before .before .before .before in
+    let bytes = e .before .before .before .before .args .bytes .now in
+    let same = fed-opened bytes (e .before .seek .result) (place (e .before)) (e .if1 .left) in
+    feeds-done (g .go-on .ensures) (stateOf []) (ap done (same ∙ rw (rest e, first e)))
 
 pub begin-spec : {M : Type 1} → statement M
 begin-spec =
@@ -104,11 +111,12 @@ begin-spec =
     start-requires
     returns
     add-next
-    shared-slice-read-open
-    open-requires
     sub-go-on
     part-go-on-start
     part-go-on-end
+    sub-go-on-2
+    part-go-on-start-2
+    part-go-on-end-2
     go-on-requires
     same-length
     returns-2)
