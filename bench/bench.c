@@ -187,6 +187,56 @@ static void device_step(const char *name, int starts, twin_device *s, twin_given
     count = a.count;
 }
 
+// A state of the framer, kept by the caller: the product is handed it and answers the next by value.
+typedef SIDE(framer) framer;
+
+static SIDE(answer) feed(framer *s, size_t *used, const uint8_t *bytes, size_t n, size_t room) {
+#ifdef PRODUCT
+    tyntolai_framer_fed r = tyntolai_framer_feed(*s, bytes, n, out, room);
+    *s = r.state;
+    *used = r.used;
+    return r.answer;
+#else
+    return twin_framer_feed(s, used, bytes, n, out, room);
+#endif
+}
+
+static SIDE(answer) flush(framer *s, size_t room) {
+#ifdef PRODUCT
+    tyntolai_framer_flushed r = tyntolai_framer_flush(*s, out, room);
+    *s = r.state;
+    return r.answer;
+#else
+    return twin_framer_flush(s, out, room);
+#endif
+}
+
+// Pieces of so many bytes, until a string is complete or no piece is left.
+static SIDE(answer) feed_pieces(framer *s, size_t *used, const uint8_t *bytes, size_t n, size_t piece, size_t room) {
+    SIDE(answer) a;
+    size_t part;
+    *used = 0;
+    do {
+        a = feed(s, &part, bytes + *used, piece, room);
+        *used += part;
+    } while (a.code == 0 && a.count == 0 && *used < n);
+    return a;
+}
+
+static void framer_call(const char *name, int feeds, framer *s, const uint8_t *bytes, size_t n, size_t piece,
+                        size_t room) {
+    size_t used = 0;
+    MEASURED(name, SIDE(answer) a = feeds ? feed_pieces(s, &used, bytes, n, piece, room) : flush(s, room))
+    mix_answer(a.code, a.count);
+    mix_number(used);
+    mix(s->held, sizeof s->held);
+    mix_number(s->length);
+    mix(out, 300);
+    report(name, a.code, a.count);
+    code = a.code;
+    count = a.count;
+}
+
 static void run(const char *name, const uint8_t *job, size_t n, const twin_device_settings *d,
                 const twin_central_settings *c, const uint32_t *pagers, size_t pager_count, uint8_t *journal,
                 size_t size, size_t length, const uint8_t *faults, size_t fault_count, uint8_t *verdicts,
@@ -322,6 +372,33 @@ static void measure_replies(void) {
     memset(text, 'A', 250);
     memcpy(text + 250, "\r\x06\r", 3);
     measure_reply("reply read, 250 characters, then ACK", text, 253);
+}
+
+// Bytes fed, in pieces of so many, to a state that holds so many: STX and As. Or a flush of it.
+static void measure_framer(const char *name, int feeds, size_t held, const uint8_t *text, size_t n, size_t piece) {
+    framer s = {{0}, held};
+    uint8_t line[256];
+    memset(s.held, 'A', held);
+    if (held > 0) s.held[0] = 2;
+    memcpy(line, text, n);
+    set_parity(line, n);
+    set_parity(s.held, held);
+    framer_call(name, feeds, &s, line, n, piece, 256);
+}
+
+static void measure_framers(void) {
+    uint8_t t[250], small[256], large[256], noise[256];
+    make_transaction(t, 40);
+    make_block(small, t, 40, 3);
+    make_transaction(t, 250);
+    make_block(large, t, 250, 3);
+    memset(noise, 'A', sizeof noise);
+    measure_framer("framer feed, block of 256", 1, 0, large, 256, 256);
+    measure_framer("framer feed, block of 46", 1, 0, small, 46, 46);
+    measure_framer("framer feed, 256 of noise", 1, 0, noise, 256, 256);
+    measure_framer("framer feed, block of 256 in 32 pieces of 8", 1, 0, large, 256, 8);
+    measure_framer("framer feed, one byte to 100 held", 1, 100, noise, 1, 1);
+    measure_framer("framer flush, 100 held", 0, 100, noise, 0, 0);
 }
 
 // A step of the central in a stage, with so much of a transaction unfinished, over a journal.
@@ -531,6 +608,32 @@ static size_t any_string(uint8_t *to) {
     return n;
 }
 
+// Strings and noise as a wire may bring them; so many bytes.
+static size_t any_wire(uint8_t *to) {
+    size_t n = 0;
+    for (size_t k = 1 + below(3); k > 0; k--) {
+        size_t noise = below(3) == 0 ? below(20) : 0;
+        any_text(to + n, noise);
+        n += noise;
+        n += any_string(to + n);
+    }
+    return n;
+}
+
+// What the framer may hold, or nearly.
+static framer any_framer(void) {
+    static const uint8_t endings[] = {3, 0x17, 0x1F};
+    framer s = {{0}, below(3) == 0 ? 0 : below(2) ? below(12) : below(258)};
+    size_t n = s.length < 256 ? s.length : 256;
+    any_text(s.held, n);
+    if (n > 0) s.held[0] = n < 3 && below(2) ? 4 : 2;
+    if (n > 5 && below(2)) s.held[n - 1 - below(rarely() ? 5 : 4)] = endings[below(3)];
+    set_parity(s.held, n);
+    if (rarely()) s.held[below(256)] = (uint8_t)below(256);
+    if (rarely() && rarely()) s.length = below(2) ? below(300) : (size_t)0 - 1 - below(3);
+    return s;
+}
+
 static uint64_t seen[10];
 
 static void summed(const char *name) {
@@ -607,6 +710,22 @@ static void random_journals(size_t calls) {
     summed("reply read");
 }
 
+static void random_framers(size_t calls) {
+    uint8_t wire[1024];
+    framer s = {{0}, 0};
+    for (size_t i = 0; i < calls; i++, seen[code]++) {
+        if (i % 4 == 0 || code != 0) s = any_framer();
+        size_t n = any_wire(wire), from = below(4) ? 0 : below(n + 1), m = below(2) ? n - from : below(n - from + 1);
+        framer_call(NULL, 1, &s, wire + from, m, m, any_room(256));
+    }
+    summed("framer feed");
+    for (size_t i = 0; i < calls; i++, seen[code]++) {
+        s = any_framer();
+        framer_call(NULL, 0, &s, wire, 0, 0, any_room(256));
+    }
+    summed("framer flush");
+}
+
 static void random_centrals(size_t calls) {
     static twin_central s;
     uint8_t string[512];
@@ -681,6 +800,7 @@ int main(int words, char **word) {
         seed = strtoul(word[1], NULL, 10) * 2 + 1;
         random_characters(calls);
         random_journals(calls);
+        random_framers(calls);
         random_centrals(calls);
         random_devices(calls);
         random_runs(calls / 10);
@@ -689,6 +809,7 @@ int main(int words, char **word) {
     measure_characters();
     measure_journal();
     measure_replies();
+    measure_framers();
     measure_centrals();
     measure_devices();
     measure_runs();

@@ -21,7 +21,7 @@ int main(void) {
     const uint32_t pagers[1] = {123};
     const tyntolai_device_settings device_settings = {{"SECRET", 6}, 2};
     const tyntolai_central_settings central_settings = {{"SECRET", 6}, 2000, 2};
-    uint8_t string[TYNTOLAI_STRING], answer[TYNTOLAI_ANSWER], pending[TYNTOLAI_PENDING];
+    uint8_t string[TYNTOLAI_STRING], block[TYNTOLAI_STRING], answer[TYNTOLAI_ANSWER], pending[TYNTOLAI_PENDING];
     uint8_t verdicts[2] = {TYNTOLAI_UNSENT, TYNTOLAI_UNSENT};
     size_t transmissions = 0;
 
@@ -32,15 +32,23 @@ int main(void) {
 
     // The device puts out a string, the central answers, the device reads the answer, until it stops.
     tyntolai_central_state central = tyntolai_central_start(4);
+    tyntolai_framer_fed fed = {0}; // its state holds nothing
     tyntolai_device_stepped device =
         tyntolai_device_start(device_settings, job, length.count, string, sizeof string);
     if (device.answer.code != 0) return wrong("the device's start");
     while (device.answer.count > 0) {
-        print("device ", string, device.answer.count);
+        const uint8_t *came = string;
+        size_t n = device.answer.count;
+        print("device ", string, n);
         transmissions++;
+        if (central.stage == TYNTOLAI_BLOCK) { // the wire brings a byte at a time
+            for (size_t i = 0; i < n; i++) fed = tyntolai_framer_feed(fed.state, string + i, 1, block, sizeof block);
+            if (fed.answer.count != n) return wrong("the framer");
+            came = block;
+        }
         tyntolai_central_stepped heard =
             tyntolai_central_step(central, central_settings, pagers, 1, journal, sizeof journal, pending,
-                                  sizeof pending, string, device.answer.count, answer, sizeof answer);
+                                  sizeof pending, came, n, answer, sizeof answer);
         if (heard.answer.code != 0) return wrong("a step of the central");
         central = heard.state;
         print("central", answer, heard.answer.count);

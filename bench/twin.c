@@ -269,6 +269,67 @@ uint8_t twin_read_reply(const uint8_t *bytes, size_t n) {
     return read_text(text, text + n);
 }
 
+// ---- the framer
+
+static int opening(uint8_t c) { return (c & 0x7F) == STX || (c & 0x7F) == EOT; }
+
+static int ending(uint8_t c) { return (c & 0x7F) == ETX || (c & 0x7F) == ETB || (c & 0x7F) == US; }
+
+static size_t size_from(size_t length) { return length + 4 < 256 ? length + 4 : 256; }
+
+// How long the string is to be of which so much is held; 256 while its ending has not come.
+static size_t held_size(const twin_framer *s) {
+    if ((s->held[0] & 0x7F) == EOT) return 2;
+    for (size_t i = s->length < 5 ? 1 : s->length - 4; i < s->length; i++)
+        if (ending(s->held[i])) return size_from(i + 1);
+    return 256;
+}
+
+static int framer_in_range(const twin_framer *s) {
+    if (s->length >= 256) return 0;
+    for (size_t i = s->length; i < 256; i++)
+        if (s->held[i] != 0) return 0;
+    if (s->length == 0) return 1;
+    if ((s->held[0] & 0x7F) == EOT) return s->length < 2;
+    if ((s->held[0] & 0x7F) != STX) return 0;
+    for (size_t i = 1; i + 4 < s->length; i++)
+        if (ending(s->held[i])) return 0;
+    return 1;
+}
+
+static twin_answer hand_over(twin_framer *s, uint8_t *out) {
+    size_t n = s->length;
+    memcpy(out, s->held, n);
+    memset(s, 0, sizeof *s);
+    return done(n);
+}
+
+twin_answer twin_framer_feed(twin_framer *s, size_t *used, const uint8_t *bytes, size_t n, uint8_t *out,
+                             size_t room) {
+    size_t i = 0;
+    *used = 0;
+    if (!framer_in_range(s)) return refused(9);
+    if (room < 256) return refused(1);
+    if (s->length == 0) {
+        while (i < n && !opening(bytes[i])) i++;
+        if (i < n) s->held[s->length++] = bytes[i++];
+    }
+    size_t length = s->length, size = held_size(s);
+    for (; i < n && length < size; i++) {
+        s->held[length++] = bytes[i];
+        if (size == 256 && ending(bytes[i])) size = size_from(length);
+    }
+    s->length = length;
+    *used = i;
+    return length == size ? hand_over(s, out) : done(0);
+}
+
+twin_answer twin_framer_flush(twin_framer *s, uint8_t *out, size_t room) {
+    if (!framer_in_range(s)) return refused(9);
+    if (room < 256) return refused(1);
+    return hand_over(s, out);
+}
+
 // ---- settings
 
 static int password_in_range(const twin_password *p) {

@@ -57,6 +57,11 @@ typedef struct {
 enum { TWIN_UNREAD, TWIN_ID_REQUEST, TWIN_ACCEPTANCE, TWIN_ACK, TWIN_NAK, TWIN_RS, TWIN_EOT };
 
 typedef struct {
+    uint8_t held[256];
+    size_t length;
+} twin_framer;
+
+typedef struct {
     size_t transmissions, journal;
     uint8_t code;
 } twin_totals;
@@ -70,6 +75,9 @@ twin_answer twin_write_segments(const uint8_t *info, size_t n, uint8_t *out, siz
 twin_answer twin_check_journal(const uint8_t *journal, size_t n);
 twin_answer twin_append(uint8_t *buffer, size_t size, size_t length, const uint8_t *info, size_t n);
 uint8_t twin_read_reply(const uint8_t *bytes, size_t n);
+twin_answer twin_framer_feed(twin_framer *state, size_t *used, const uint8_t *bytes, size_t n, uint8_t *out,
+                             size_t room);
+twin_answer twin_framer_flush(twin_framer *state, uint8_t *out, size_t room);
 void twin_central_start(twin_central *state, size_t journal);
 twin_answer twin_central_hang_up(twin_central *state, const twin_central_settings *settings);
 twin_answer twin_central_step(twin_central *state, const twin_central_settings *settings,

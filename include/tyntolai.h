@@ -86,6 +86,38 @@ enum {
 // What the bytes of a reply mean, as they came off the line: one of the above.
 uint8_t tyntolai_read_reply(const uint8_t *bytes, size_t byte_count);
 
+// ---- Bytes as a wire brings them
+
+// What is held of a string that is not complete: its bytes as they came, zeros behind them, and how many
+// they are. A record of zeros holds nothing, and is the start.
+typedef struct {
+    uint8_t held[256];
+    size_t length;
+} tyntolai_framer;
+
+typedef struct {
+    tyntolai_answer answer;
+    size_t used;
+    tyntolai_framer state;
+} tyntolai_framer_fed;
+
+typedef struct {
+    tyntolai_answer answer;
+    tyntolai_framer state;
+} tyntolai_framer_flushed;
+
+// Bytes of the wire, in pieces of any length, to the strings that the central's Block stage is given; in
+// Idle and Logon the driver cuts at CR. What comes before STX or EOT is skipped. From STX a string goes up
+// to four characters behind the first ETX, ETB or US, and has at most 256; from EOT it has two. Bytes are
+// judged on their low seven bits, and handed over as they came. Count bytes of a string go to out
+// (TYNTOLAI_STRING or more), 0 where none is complete yet; the first `used` bytes are done with: feed again
+// with the rest while used is below byte_count. Refusals 9, 1.
+tyntolai_framer_fed tyntolai_framer_feed(tyntolai_framer state, const uint8_t *bytes, size_t byte_count,
+                                         uint8_t *out, size_t room);
+
+// The wire is silent: what is held goes to out as it stands, and nothing is held then. Refusals 9, 1.
+tyntolai_framer_flushed tyntolai_framer_flush(tyntolai_framer state, uint8_t *out, size_t room);
+
 // ---- The central
 
 // The longest transaction is 3 to 2,000 characters, the retry limit 0 to 9.

@@ -1,3 +1,4 @@
 pub mod AnswerLaws
 pub mod RecordLaws
+pub mod FramerLaws
 mod CallerLaws

@@ -5,3 +5,4 @@ pub mod Settings
 pub mod Centrals
 pub mod Devices
 pub mod Run
+pub mod Framers

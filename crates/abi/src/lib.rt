@@ -3,6 +3,7 @@
 pub mod answer;
 pub mod centrals;
 pub mod devices;
+pub mod framers;
 pub mod journals;
 pub mod password;
 pub mod replies;

@@ -97,6 +97,15 @@ heard-bye-whole (b ∷ bs) e = go (parityOff (b ∷ bs) 256) refl e
 
 -- ── Through the framer ──
 
--- a whole string among bytes that begin none, met with nothing held, is what the driver hands over, alone: what a driver that cuts would have
-pub cut-out : {s : List ℕ} → Whole s → (before : List ℕ) → beforeFirst isOpening before ≡ length before → Drives (stateOf []) ((before ++ s) ∷ []) (s ∷ []) (stateOf [])
+-- a whole string behind bytes that begin none, met with nothing held, is handed over alone
+cut-out : {s : List ℕ} → Whole s → (before : List ℕ) → beforeFirst isOpening before ≡ length before → Drives (stateOf []) ((before ++ s) ∷ []) (s ∷ []) (stateOf [])
 cut-out w before none-opens = skipped-drives (whole-alone w) before none-opens
+
+module _ (before s : List ℕ) (none-opens : beforeFirst isOpening before ≡ length before) where
+  -- what the central hears as a block is what the framer hands over of it: the string of a driver that cuts
+  pub block-handed : (g : Segment) → heard Block s ≡ block g → Drives (stateOf []) ((before ++ s) ∷ []) (s ∷ []) (stateOf [])
+  block-handed g e = cut-out (heard-block-whole s g e) before none-opens
+
+  -- so is what it hears as a goodbye
+  pub bye-handed : heard Block s ≡ bye → Drives (stateOf []) ((before ++ s) ∷ []) (s ∷ []) (stateOf [])
+  bye-handed e = cut-out (heard-bye-whole s e) before none-opens
