@@ -1,5 +1,4 @@
--- Blocks and goodbyes are whole strings: information holds no ending, so that the first ending behind STX is the block's own. So a block that meets nothing held comes
--- out unaltered and alone, and blocks one behind the other come out as they are.
+-- Blocks and goodbyes are whole strings: information holds no ending, so that the first ending behind STX is the block's own.
 use mathlib.Core.Bool.{Bool, true, false, not, _||_, false≢true, and-eq-true-iff}
 use mathlib.Core.List.{List, [], _∷_, _++_, map}
 use mathlib.Core.Path.{_≡_, refl, sym, ap, _∙_}

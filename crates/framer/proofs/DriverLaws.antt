@@ -1,6 +1,5 @@
 -- Laws of driving: from a state in range all pieces can be fed, and whatever pieces the same bytes come in, the strings handed over and the state left are the same.
--- Two neighbouring pieces can be fed as one, so all can, and one piece drives in one way only. With it: whole strings come out one by one, and the start leads to
--- the states in range and to no others.
+-- Two neighbouring pieces can be fed as one, so all can, and one piece drives in one way only. And whole strings come out one by one.
 use mathlib.Core.Bool.{true}
 use mathlib.Core.List.{List, [], _∷_, _++_, flatten, append-assoc, append-nil, List·Memᴰ, List·Memᴰ·head, List·Memᴰ·tail}
 use mathlib.Core.Option.{none, some}
@@ -12,10 +11,10 @@ use lib.Seq.{drop-append-le, drop-append-add, drop-append-seam}
 use Rattle.line.specs.Answer.{done}
 use Rattle.framer.specs.Framing.{isOpening, beforeFirst, Feeding, fed, unfinished, Whole}
 use Rattle.framer.specs.Inner.{later}
-use Rattle.framer.specs.State.{stateOf, heldIn, inRange, fedTo, Reached, begun, onward, emptied}
-use Rattle.framer.specs.Driver.{Drives, over, waits, hands}
+use Rattle.framer.specs.State.{stateOf, heldIn, inRange, fedTo}
+use Rattle.framer.specs.Driver.{Drives, over, spent, waits, hands}
 use Rattle.framer.specs.declared.Framer.{Framer}
-use Rattle.framer.proofs.FramingLaws.{held-opens, fed-later, fed-sooner, fed-skipped, skipped-later, fed-held, held-longer, fed-alone}
+use Rattle.framer.proofs.FramingLaws.{fed-later, fed-sooner, fed-skipped, skipped-later, fed-held, held-longer}
 use Rattle.framer.proofs.StateLaws.{tested-done, done-tested, state-holds, state-in-range, range-held, range-state}
 use Rattle.framer.proofs.WholeLaws.{Comes, waiting, handing, fed-comes, whole-fed}
 
@@ -26,8 +25,8 @@ pub fed-state : (h p : List ℕ) (room : ℕ) → unfinished h ≡ true → 256 
 fed-state h p room u r = tested-done (stateOf h) room (fed (heldIn (stateOf h)) p) (state-in-range h u) r ∙ rw (state-holds h)
 
 -- and what was fed is that
-state-fed : (h p : List ℕ) (room : ℕ) (f : Feeding) → fedTo (stateOf h) p room ≡ done f → (256 ≤ room) × (fed h p ≡ f)
-state-fed h p room f e = let (_, r, same) = done-tested (stateOf h) room (fed (heldIn (stateOf h)) p) f e in (r, rw (state-holds h) at same)
+state-fed : (h p : List ℕ) (room : ℕ) (f : Feeding) → fedTo (stateOf h) p room ≡ done f → fed h p ≡ f
+state-fed h p room f e = let (_, _, same) = done-tested (stateOf h) room (fed (heldIn (stateOf h)) p) f e in rw (state-holds h) at same
 
 -- ── Pieces, over what is held ──
 
@@ -44,8 +43,8 @@ behind {h′} {q} {qs} (gives {ss = ss} {f = f} e n rest) h p same =
     let left : Runs (f .held) (drop (length p + f .used) (p ++ q) ∷ qs) ss h′ = rw (drop-append-add p q (f .used)) rest in
     gives {f = later (length p) f} (same ∙ ap (later (length p)) e) n left
 
--- what can be held and the bytes that are used, by what feeding comes to
-held-going : (h p : List ℕ) (f : Feeding) → unfinished h ≡ true → fed h p ≡ f → unfinished (f .held) ≡ true
+-- what is left can be held
+pub held-going : (h p : List ℕ) (f : Feeding) → unfinished h ≡ true → fed h p ≡ f → unfinished (f .held) ≡ true
 unfolding unfinished
 held-going h p f u e = go (fed-comes h p u)
   where
@@ -53,18 +52,19 @@ held-going h p f u e = go (fed-comes h p u)
     go (waiting held is going) = rw (← e, is) going
     go (handing s used is whole least most) = rw (← e, is)
 
-fed-used : (h p : List ℕ) (f : Feeding) (x : List ℕ) → unfinished h ≡ true → fed h p ≡ f → f .string ≡ some x → (1 ≤ f .used) × (f .used ≤ length p)
-fed-used h p f x u e n = go (fed-comes h p u)
+-- no more bytes are used than came
+fed-within : (h p : List ℕ) (f : Feeding) → unfinished h ≡ true → fed h p ≡ f → f .used ≤ length p
+fed-within h p f u e = go (fed-comes h p u)
   where
-    go : Comes h p → (1 ≤ f .used) × (f .used ≤ length p)
-    go (waiting held is going) = let z : _≡_ {A = ℕ} 0 1 = cc in absurd (omega arith)
-    go (handing s used is whole least most) = rw (← e, is) (least, most)
+    go : Comes h p → f .used ≤ length p
+    go (waiting held is going) = rw (← e, is) (omega arith)
+    go (handing s used is whole least most) = rw (← e, is) most
 
 -- two neighbouring pieces as one
 joined : {h h′ p q : List ℕ} {qs ss : List (List ℕ)} → Runs h (p ∷ q ∷ qs) ss h′ → unfinished h ≡ true → Runs h ((p ++ q) ∷ qs) ss h′
 joined {h} {p = p} {q = q} (goes {f = f} e n rest) u = behind rest h p (fed-later h p q u (rw e n) ∙ rw e)
 joined {h} {h′} {p} {q} {qs} (gives {x = x} {ss = ss} {f = f} e n rest) u =
-    let (_, most) = fed-used h p f x u e n in
+    let most = fed-within h p f u e in
     let left : Runs (f .held) (drop (f .used) (p ++ q) ∷ qs) ss h′ = rw (drop-append-le (f .used) p q most) (joined rest (held-going h p f u e)) in
     gives (fed-sooner h p q x u (rw e n) ∙ e) n left
 
@@ -75,7 +75,7 @@ one {p = p} [] r u = rw (append-nil p) r
 one {p = p} (q ∷ ps) r u = rw (← append-assoc) (one ps (joined r u) u)
 
 -- nothing fed leaves all as it is
-fed-nothing : (h : List ℕ) → unfinished h ≡ true → fed h [] ≡ record { string = none; used = 0; held = h }
+pub fed-nothing : (h : List ℕ) → unfinished h ≡ true → fed h [] ≡ record { string = none; used = 0; held = h }
 unfolding beforeFirst
 fed-nothing [] u = fed-skipped [] refl
 fed-nothing (b ∷ bs) u =
@@ -127,14 +127,19 @@ runs (suc n) h ps u enough = more n (runs n) h ps u enough
 -- ── Pieces, over states ──
 
 -- what is driven is run
-drives-runs : {s s′ : Framer} {ps ss : List (List ℕ)} → Drives s ps ss s′ → (h : List ℕ) → s ≡ stateOf h → (h′ : List ℕ) × (s′ ≡ stateOf h′) × Runs h ps ss h′
-drives-runs over h e = (h, e, ends)
-drives-runs (waits {p = p} {f = f} room fits n rest) h e =
-    let (h′, e′, r) = drives-runs rest (f .held) refl in
-    (h′, e′, goes (state-fed h p room f (rw e at fits) .1) n r)
-drives-runs (hands {p = p} {f = f} room fits n rest) h e =
-    let (h′, e′, r) = drives-runs rest (f .held) refl in
-    (h′, e′, gives (state-fed h p room f (rw e at fits) .1) n r)
+drives-runs : {s s′ : Framer} {ps ss : List (List ℕ)} → Drives s ps ss s′ → (h : List ℕ) → unfinished h ≡ true → s ≡ stateOf h → (h′ : List ℕ) × (s′ ≡ stateOf h′) × Runs h ps ss h′
+drives-runs over h u e = (h, e, ends)
+drives-runs (spent rest) h u e =
+    let (h′, e′, r) = drives-runs rest h u e in
+    (h′, e′, goes (fed-nothing h u) refl r)
+drives-runs (waits {p = p} {f = f} room fits n rest) h u e =
+    let is = state-fed h p room f (rw e at fits) in
+    let (h′, e′, r) = drives-runs rest (f .held) (held-going h p f u is) refl in
+    (h′, e′, goes is n r)
+drives-runs (hands {p = p} {f = f} room fits n rest) h u e =
+    let is = state-fed h p room f (rw e at fits) in
+    let (h′, e′, r) = drives-runs rest (f .held) (held-going h p f u is) refl in
+    (h′, e′, gives is n r)
 
 -- what is run is driven
 runs-drives : {h h′ : List ℕ} {ps ss : List (List ℕ)} → Runs h ps ss h′ → unfinished h ≡ true → Drives (stateOf h) ps ss (stateOf h′)
@@ -163,8 +168,8 @@ module _ (s : Framer) (ranged : inRange s ≡ true) (sized : length (s .held) �
       let h = heldIn s in
       let going = range-held s ranged in
       let is = range-state s ranged sized in
-      let (h₁, is₁, r₁) = drives-runs d h is in
-      let (h₂, is₂, r₂) = drives-runs e h is in
+      let (h₁, is₁, r₁) = drives-runs d h going is in
+      let (h₂, is₂, r₂) = drives-runs e h going is in
       let other : Runs h (flatten ps ∷ []) ts h₂ = rw same (run-flat qs r₂ going) in
       let (strings, held) = same-run (run-flat ps r₁ going) other in
       (strings, is₁ ∙ ap stateOf held ∙ sym is₂)
@@ -175,7 +180,7 @@ module _ (s : Framer) (ranged : inRange s ≡ true) (sized : length (s .held) �
       let h = heldIn s in
       let going = range-held s ranged in
       let is = range-state s ranged sized in
-      let (h′, is′, r) = drives-runs d h is in
+      let (h′, is′, r) = drives-runs d h going is in
       rw (is, is′) (runs-drives (run-flat ps r going) going)
 
 -- ── Whole strings, met with nothing held ──
@@ -192,13 +197,12 @@ module _ {q : List ℕ} {ps ss : List (List ℕ)} {s′ : Framer} (rest : Drives
   pub skipped-drives : (p : List ℕ) → beforeFirst isOpening p ≡ length p → Drives (stateOf []) ((p ++ q) ∷ ps) ss s′
   unfolding unfinished
   skipped-drives p none-opens =
-      let (h′, is, r) = drives-runs rest [] refl in
+      let (h′, is, r) = drives-runs rest [] refl refl in
       rw is (runs-drives (behind r [] p (skipped-later p none-opens q)) refl)
 
 -- nothing fed
 nothing-drives : Drives (stateOf []) ([] ∷ []) [] (stateOf [])
-unfolding unfinished
-nothing-drives = waits 256 (fed-state [] [] 256 refl (omega arith) ∙ ap done (fed-nothing [] refl)) refl over
+nothing-drives = spent over
 
 -- it comes out alone, and nothing is held behind it
 pub whole-alone : {s : List ℕ} → Whole s → Drives (stateOf []) (s ∷ []) (s ∷ []) (stateOf [])
@@ -209,28 +213,3 @@ pub wholes-drive : (ss : List (List ℕ)) → ((s : List ℕ) → List·Memᴰ s
 unfolding flatten
 wholes-drive [] each = nothing-drives
 wholes-drive (s ∷ ss) each = whole-drives (wholes-drive ss (λ x m. each x (List·Memᴰ·tail m))) (each s (List·Memᴰ·head refl))
-
--- ── The start leads to the states in range, and to no others ──
-
--- to what the start leads is in range
-pub reached-in-range : {s : Framer} → Reached s → inRange s ≡ true
-unfolding unfinished
-reached-in-range begun = state-in-range [] refl
-reached-in-range (onward {s} {f} before bytes room e) =
-    let (ranged, _, is) = done-tested s room (fed (heldIn s) bytes) f e in
-    state-in-range (f .held) (held-going (heldIn s) bytes f (range-held s ranged) is)
-reached-in-range (emptied before room e) = state-in-range [] refl
-
--- what can be held is held where it is fed to nothing
-held-again : (h : List ℕ) → unfinished h ≡ true → fed [] h ≡ record { string = none; used = length h; held = h }
-unfolding unfinished
-held-again [] u = fed-nothing [] u
-held-again (b ∷ bs) u = fed-alone b bs (held-opens b bs u .0) (held-opens b bs u .1)
-
--- the start leads to every state in range: the bytes that it holds do
-pub in-range-reached : (s : Framer) → inRange s ≡ true → length (s .held) ≡ 256 → Reached s
-unfolding unfinished
-in-range-reached s ranged sized =
-    let h = heldIn s in
-    let fits = fed-state [] h 256 refl (omega arith) ∙ ap done (held-again h (range-held s ranged)) in
-    rw (range-state s ranged sized) (onward begun h 256 fits)

@@ -1,5 +1,5 @@
--- Laws of framing. How long a string is to be does not change by bytes that come behind its end, nor falls to what is held; so bytes that come in two pieces
--- are framed as if they came in one (`fed-later`, `fed-sooner`), and the strings handed over are the whole ones (`whole-fed`, `fed-whole`).
+-- Laws of feeding. How long a string is to be does not change by bytes that come behind its end, and never falls to what is held; so bytes that come in two pieces
+-- are fed as if they came in one (`fed-later`, `fed-sooner`). And feeding as the code does it.
 use mathlib.Core.Bool.{Bool, true, false, and-eq-true-iff}
 use mathlib.Core.List.{List, [], _∷_, _++_, append-assoc}
 use mathlib.Core.Logic.{⊎-elim}

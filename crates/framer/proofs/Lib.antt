@@ -1,7 +1,8 @@
+pub mod BlockLaws
+pub mod DriverLaws
 pub mod FirstLaws
 pub mod FramingLaws
-pub mod WholeLaws
 pub mod HeldLaws
+pub mod ReachedLaws
 pub mod StateLaws
-pub mod DriverLaws
-pub mod BlockLaws
+pub mod WholeLaws

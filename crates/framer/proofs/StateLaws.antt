@@ -1,5 +1,4 @@
--- Laws of the saved state: a state in range is that of the bytes it holds, which can be held; the start leads to these states and to no others; and the ways
--- to have `Feeds` and `Flushes`.
+-- Laws of the saved state: a state in range is that of the bytes it holds, which can be held; the order of refusals; and the ways to have `Feeds` and `Flushes`.
 use mathlib.Core.Bool.{true, false, not, and-eq-true-iff}
 use mathlib.Core.List.{List, [], _∷_}
 use mathlib.Core.Option.{none, some}

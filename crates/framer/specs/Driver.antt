@@ -13,6 +13,8 @@ use Rattle.framer.specs.declared.Framer.{Framer}
 pub data Drives : Framer → List (List ℕ) → List (List ℕ) → Framer → Type 0 where
   -- no piece is left
   over : {s : Framer} → Drives s [] [] s
+  -- nothing is left of the piece, or it was empty: it need not be fed
+  spent : {s s′ : Framer} {ps ss : List (List ℕ)} → Drives s ps ss s′ → Drives s ([] ∷ ps) ss s′
   -- the piece completes no string: all of it is used, and the next is fed
   waits : {s s′ : Framer} {p : List ℕ} {ps ss : List (List ℕ)} {f : Feeding} (room : ℕ) → fedTo s p room ≡ done f → f .string ≡ none →
       Drives (stateOf (f .held)) ps ss s′ → Drives s (p ∷ ps) ss s′

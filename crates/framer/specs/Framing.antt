@@ -44,9 +44,9 @@ pub record Feeding : Type 0 where
 -- long as it is to be, it is handed over, and bytes are used up to its end; until then all is held (R-14.3)
 unfoldable pub fed : List ℕ → List ℕ → Feeding
 fed held bytes =
-    let all = held ++ bytes in
-    let skipped = beforeFirst isOpening all in
-    let t = drop skipped all in
+    let stream = held ++ bytes in
+    let skipped = beforeFirst isOpening stream in
+    let t = drop skipped stream in
     if leb (size t) (length t) then record { string = some (take (size t) t); used = skipped + size t - length held; held = [] }
     else record { string = none; used = length bytes; held = t }
 
