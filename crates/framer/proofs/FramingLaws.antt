@@ -96,6 +96,11 @@ held-opens b bs h =
     let (opens, short) = and-eq-true-iff (isOpening b) (ltb (length (b ∷ bs)) (size (b ∷ bs))) .0 h in
     (opens, ltb-true _ _ short)
 
+-- and what begins so, and is shorter than it is to be, can be held
+pub held-begun : (b : ℕ) (bs : List ℕ) → isOpening b ≡ true → length (b ∷ bs) < size (b ∷ bs) → unfinished (b ∷ bs) ≡ true
+unfolding unfinished
+held-begun b bs opens short = rw (opens, lt-ltb _ _ short)
+
 -- the same feeding, from a place so many bytes on
 from-later : (k : ℕ) (t : List ℕ) (n m k′ n′ m′ x : ℕ) → m ≡ x + m′ → k + size t - n ≡ x + (k′ + size t - n′) → fedFrom k t n m ≡ later x (fedFrom k′ t n′ m′)
 from-later k t n m k′ n′ m′ x e u = go (leb (size t) (length t))
@@ -181,47 +186,33 @@ fed-sooner h p q s u e = go (beginning h p u)
     go (nowhere none-held none-opens) = let z : _≡_ {A = ℕ} 0 1 = cc (fed-skipped p none-opens) in absurd (omega arith)
     go (somewhere k b bs place inside left opens) = begun-sooner h p k b bs place inside left opens s e q
 
--- ── What is held, and what is used ──
-
--- what begins with STX or EOT and is shorter than it is to be, can be held
-pub held-begun : (b : ℕ) (bs : List ℕ) → isOpening b ≡ true → length (b ∷ bs) < size (b ∷ bs) → unfinished (b ∷ bs) ≡ true
-unfolding unfinished
-held-begun b bs opens short = rw (opens, lt-ltb _ _ short)
-
 -- ── As the code feeds ──
 
--- bytes behind what is held
+-- behind what is held nothing is skipped
+fed-on : (h p : List ℕ) → unfinished h ≡ true → 1 ≤ length h → fed h p ≡ fedFrom 0 (h ++ p) (length h) (length p)
+fed-on [] p u some-held = absurd (omega arith)
+fed-on (b ∷ bs) p u some-held = fed-from (b ∷ bs) p 0 (b ∷ bs ++ p) (opens-first b (bs ++ p) (held-opens b bs u .0)) refl
+
+-- and the string is longer than that
+pub held-longer : (h p : List ℕ) → unfinished h ≡ true → 1 ≤ length h → length h < size (h ++ p)
+held-longer [] p u some-held = absurd (omega arith)
+held-longer (b ∷ bs) p u some-held = size-longer b bs p (held-opens b bs u .1)
+
 module _ (h p : List ℕ) (u : unfinished h ≡ true) (some-held : 1 ≤ length h) where
-  -- nothing is skipped
-  fed-on : fed h p ≡ fedFrom 0 (h ++ p) (length h) (length p)
-  fed-on = go h u some-held
-    where
-      go : (h : List ℕ) → unfinished h ≡ true → 1 ≤ length h → fed h p ≡ fedFrom 0 (h ++ p) (length h) (length p)
-      go [] u l = absurd (omega arith)
-      go (b ∷ bs) u l = fed-from (b ∷ bs) p 0 (b ∷ bs ++ p) (opens-first b (bs ++ p) (held-opens b bs u .0)) refl
-
-  -- the string is longer than what is held
-  pub held-longer : length h < size (h ++ p)
-  held-longer = go h u some-held
-    where
-      go : (h : List ℕ) → unfinished h ≡ true → 1 ≤ length h → length h < size (h ++ p)
-      go [] u l = absurd (omega arith)
-      go (b ∷ bs) u l = size-longer b bs p (held-opens b bs u .1)
-
   -- the string wants more than these: they are held too
   pub fed-held : length p < size (h ++ p) - length h → fed h p ≡ record { string = none; used = length p; held = h ++ p }
-  fed-held few = fed-on ∙ rw (lt-leb (size (h ++ p)) (length (h ++ p)) (omega (arith, length-append h p)))
+  fed-held few = fed-on h p u some-held ∙ rw (lt-leb (size (h ++ p)) (length (h ++ p)) (omega (arith, length-append h p)))
 
   -- it takes as many as it wants, and is handed over
   pub fed-handed : size (h ++ p) - length h ≤ length p →
       fed h p ≡ record { string = some (h ++ take (size (h ++ p) - length h) p); used = size (h ++ p) - length h; held = [] }
   fed-handed enough =
       let n = size (h ++ p) - length h in
-      let longer = held-longer in
+      let longer = held-longer h p u some-held in
       let size-is : size (h ++ p) ≡ length h + n = omega arith in
       let string : take (size (h ++ p)) (h ++ p) ≡ h ++ take n p = ap (λ k. take k (h ++ p)) size-is ∙ take-append-add h p n in
       let used : 0 + size (h ++ p) - length h ≡ n = omega arith in
-      fed-on ∙ rw (le-leb (size (h ++ p)) (length (h ++ p)) (omega (arith, length-append h p)), string, used)
+      fed-on h p u some-held ∙ rw (le-leb (size (h ++ p)) (length (h ++ p)) (omega (arith, length-append h p)), string, used)
 
 -- nothing is held, and what comes begins a string and goes on
 pub fed-alone : (b : ℕ) (bs : List ℕ) → isOpening b ≡ true → length (b ∷ bs) < size (b ∷ bs) → fed [] (b ∷ bs) ≡ record { string = none; used = length (b ∷ bs); held = b ∷ bs }

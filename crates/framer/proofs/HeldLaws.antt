@@ -34,44 +34,34 @@ pub held-short : (h : List ℕ) → unfinished h ≡ true → length h < 256
 held-short [] u = omega arith
 held-short (b ∷ bs) u = omega (arith, held-opens b bs u .1, size-bounds (b ∷ bs))
 
--- something is held: by its first byte
+-- from EOT on that byte alone can
+pub held-eot : (h : List ℕ) → 1 ≤ length h → sevenBits (getD h 0 0) ≡ EOT → unfinished h ≡ ltb (length h) 2
+unfolding unfinished size
+held-eot [] some e = absurd (omega arith)
+held-eot (b ∷ bs) some e = rw e
+
+-- from neither STX nor EOT on nothing can
+pub held-other : (h : List ℕ) → 1 ≤ length h → (sevenBits (getD h 0 0) ≡ EOT → ⊥) → (sevenBits (getD h 0 0) ≡ STX → ⊥) → unfinished h ≡ false
+unfolding unfinished
+held-other [] some e s = absurd (omega arith)
+held-other (b ∷ bs) some e s = rw (ne-eqb _ _ e, ne-eqb _ _ s)
+
+-- from STX on the first ending decides
+held-stx : (h : List ℕ) → 1 ≤ length h → sevenBits (getD h 0 0) ≡ STX → unfinished h ≡ ltb (length h) (min 256 (beforeFirst isEnding (drop 1 h) + 6))
+unfolding unfinished size
+held-stx [] some e = absurd (omega arith)
+held-stx (b ∷ bs) some e = rw e
+
 module _ (h : List ℕ) (some : 1 ≤ length h) where
-  -- from EOT on: that byte alone
-  pub held-eot : sevenBits (getD h 0 0) ≡ EOT → unfinished h ≡ ltb (length h) 2
-  unfolding unfinished size
-  held-eot = go h some
-    where
-      go : (h : List ℕ) → 1 ≤ length h → sevenBits (getD h 0 0) ≡ EOT → unfinished h ≡ ltb (length h) 2
-      go [] l e = absurd (omega arith)
-      go (b ∷ bs) l e = rw e
-
-  -- from neither STX nor EOT on: nothing
-  pub held-other : (sevenBits (getD h 0 0) ≡ EOT → ⊥) → (sevenBits (getD h 0 0) ≡ STX → ⊥) → unfinished h ≡ false
-  unfolding unfinished
-  held-other = go h some
-    where
-      go : (h : List ℕ) → 1 ≤ length h → (sevenBits (getD h 0 0) ≡ EOT → ⊥) → (sevenBits (getD h 0 0) ≡ STX → ⊥) → unfinished h ≡ false
-      go [] l e s = absurd (omega arith)
-      go (b ∷ bs) l e s = rw (ne-eqb _ _ e, ne-eqb _ _ s)
-
-  -- from STX on: by the first ending
-  held-stx : sevenBits (getD h 0 0) ≡ STX → unfinished h ≡ ltb (length h) (min 256 (beforeFirst isEnding (drop 1 h) + 6))
-  unfolding unfinished size
-  held-stx = go h some
-    where
-      go : (h : List ℕ) → 1 ≤ length h → sevenBits (getD h 0 0) ≡ STX → unfinished h ≡ ltb (length h) (min 256 (beforeFirst isEnding (drop 1 h) + 6))
-      go [] l e = absurd (omega arith)
-      go (b ∷ bs) l e = rw e
-
   -- up to four bytes, whatever they are
   pub held-few : sevenBits (getD h 0 0) ≡ STX → length h < 5 → unfinished h ≡ true
-  held-few e few = held-stx e ∙ lt-ltb (length h) _ (omega arith)
+  held-few e few = held-stx h some e ∙ lt-ltb (length h) _ (omega arith)
 
   -- more: fewer than 256, and no ending before the last four
   pub held-many : sevenBits (getD h 0 0) ≡ STX → 5 ≤ length h → unfinished h ≡ (ltb (length h) 256 && all (λ b. not (isEnding b)) (take (length h - 5) (drop 1 h)))
   held-many e many =
       let inner : all (λ b. not (isEnding b)) (take (length h - 5) (drop 1 h)) ≡ leb (length h - 5) k = first-all isEnding (length h - 5) (drop 1 h) (rw length-drop (omega arith)) in
-      held-stx e ∙ rw inner (go (ltb (length h) 256) (leb (length h - 5) k) refl refl)
+      held-stx h some e ∙ rw inner (go (ltb (length h) 256) (leb (length h - 5) k) refl refl)
     where
       k : ℕ
       k = beforeFirst isEnding (drop 1 h)
