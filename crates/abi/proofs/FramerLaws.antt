@@ -7,14 +7,14 @@ use native.Mathlib.Omega.{arith}
 use lib.ListN.{length, replicate, length-append}
 use Rattle.line.specs.Answer.{Outcome, done, refused, mapDone, overlay, writtenAs}
 use Rattle.framer.specs.Framing.{Feeding, fed, Whole, goodbye, block, full}
-use Rattle.framer.specs.State.{blank, stateOf, heldIn, fedTo, framedAs, Feeds, Flushes}
+use Rattle.framer.specs.State.{blank, stateOf, heldIn, fedTo, framedAs, handed, Feeds, Flushes}
 use Rattle.framer.specs.declared.Fed.{Fed}
 use Rattle.framer.specs.declared.Flushed.{Flushed}
 use Rattle.framer.specs.declared.Framer.{Framer}
 use Rattle.framer.proofs.StateLaws.{done-tested, range-held}
 use Rattle.framer.proofs.WholeLaws.{fed-whole}
 use Rattle.abi.specs.Answer.{answerOf}
-use Rattle.abi.specs.Framers.{framedAnswer, handed, FramerFeeds, FramerFlushes}
+use Rattle.abi.specs.Framers.{framedAnswer, FramerFeeds, FramerFlushes}
 use Rattle.abi.specs.declared.answer.Answer.{Answer}
 
 -- the length of what is handed over

@@ -6,7 +6,7 @@ use Prim.Native.Nat.{ℕ}
 use lib.ListN.{length}
 use Rattle.line.specs.Answer.{Outcome, countOf, mapDone, output, overlay}
 use Rattle.framer.specs.Framing.{Feeding}
-use Rattle.framer.specs.State.{stateAfter}
+use Rattle.framer.specs.State.{handed, stateAfter}
 use Rattle.framer.specs.declared.Framer.{Framer}
 use Rattle.abi.specs.Answer.{answerOf}
 use Rattle.abi.specs.declared.answer.Answer.{Answer}
@@ -16,10 +16,6 @@ use Rattle.abi.specs.declared.framers.FramerFlushed.{FramerFlushed}
 -- a string's length, or none yet, in numbers: none is 0
 abbrev pub framedAnswer : Outcome (Option ℕ) → Answer
 framedAnswer o = answerOf (mapDone (λ n. Option·getD n 0) o)
-
--- the string that a feeding hands over: no bytes where none is complete yet
-abbrev pub handed : Feeding → List ℕ
-handed f = Option·getD (f .string) []
 
 -- what is answered of a feeding: the string's length, the bytes used, the state; a refusal uses none and leaves it (R-13.1)
 abbrev pub fedAnswer : Framer → Outcome Feeding → FramerFed

@@ -58,7 +58,14 @@ block-whole info e short good =
     let narrow = read-done (blockOf info e) _ (write-read info e short good) .tests .narrow in
     seven-whole (map withParity (blockOf info e)) info e (all-without-with (blockOf info e) narrow) short good
 
--- so is EOT CR
+-- bytes that are EOT CR on their low seven bits are one too
+pub seven-bye : (s : List ℕ) → map sevenBits s ≡ EOT ∷ CR ∷ [] → Whole s
+seven-bye [] e = let z : _≡_ {A = ℕ} 0 1 = cc in absurd (omega arith)
+seven-bye (a ∷ []) e = let z : _≡_ {A = ℕ} 0 1 = cc in absurd (omega arith)
+seven-bye (a ∷ b ∷ []) e = let first : sevenBits a ≡ EOT = cc in goodbye a b (rw first)
+seven-bye (a ∷ b ∷ c ∷ s) e = let z : _≡_ {A = ℕ} 0 1 = cc in absurd (omega arith)
+
+-- and so is EOT CR as it goes on the line
 pub bye-whole : Whole (map withParity (EOT ∷ CR ∷ []))
 unfolding ones
-bye-whole = goodbye (withParity EOT) (withParity CR) refl
+bye-whole = seven-bye (map withParity (EOT ∷ CR ∷ [])) refl

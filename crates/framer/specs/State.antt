@@ -55,6 +55,10 @@ framedAs (Whole n) = done (some n)
 framedAs Partial = done none
 framedAs (Refused r) = refused (refusalNumber r)
 
+-- the string that a feeding hands over: no bytes where none is complete yet (R-14.3)
+abbrev pub handed : Feeding → List ℕ
+handed f = Option·getD (f .string) []
+
 -- what `feed` owes (R-14.3)
 pub record Feeds (o : Outcome Feeding) (s : Framer) (r : Fed) (before after : List ℕ) : Type 0 where
   -- the string's length, none yet, or the refusal
@@ -64,7 +68,7 @@ pub record Feeds (o : Outcome Feeding) (s : Framer) (r : Fed) (before after : Li
   -- the state behind it
   pub next : r .state ≡ stateAfter s (mapDone (λ f. f .held) o)
   -- the string lies at the start of the output; all else stays
-  pub leaves : after ≡ overlay (output (mapDone (λ f. Option·getD (f .string) []) o)) before
+  pub leaves : after ≡ overlay (output (mapDone handed o)) before
 
 -- what `flush` owes (R-14.7)
 pub record Flushes (o : Outcome (List ℕ)) (s : Framer) (r : Flushed) (before after : List ℕ) : Type 0 where

@@ -27,25 +27,41 @@ use Rattle.device.specs.declared.state.Settings.{Settings}
 use Rattle.device.specs.declared.state.Step.the-variants.{Sending, Closing}
 use Rattle.device.proofs.JobLaws.{somewhere-parts}
 use Rattle.device.proofs.SegmentsLaws.{segments-right}
-use Rattle.framer.specs.Framing.{Whole, goodbye, beforeFirst, isOpening}
+use Rattle.framer.specs.Framing.{Whole, beforeFirst, isOpening}
 use Rattle.framer.specs.State.{stateOf}
 use Rattle.framer.specs.Driver.{Drives}
-use Rattle.framer.proofs.BlockLaws.{seven-whole, block-whole, bye-whole}
-use Rattle.framer.proofs.DriverLaws.{whole-alone, skipped-drives}
+use Rattle.framer.proofs.BlockLaws.{seven-whole, seven-bye, block-whole, bye-whole}
+use Rattle.framer.proofs.DriverLaws.{whole-alone, whole-drives, skipped-drives}
 
 -- ── What the device sends ──
 
--- a block of a legal job comes out of the framer unaltered and alone
-pub block-sent : (settings : Settings) (ts : List (List ℕ)) → allLegal ts ≡ true → (p : Place) → exists settings ts (Sending p) ≡ true → Whole (stringBytes settings ts (Sending p))
-block-sent settings ts good p e =
-    let (there, at) = somewhere-parts settings ts p e in
-    let g = segmentIn settings ts p in
-    let (short, fits) = segments-right settings (getD ts (p .transaction) []) (legal-at ts (p .transaction) good there) (p .block) at in
-    block-whole (g .info) (g .ending) short fits
+module _ (settings : Settings) (ts : List (List ℕ)) where
+  -- what the device sends at a place of a legal job is a whole string
+  sent-whole : allLegal ts ≡ true → (p : Place) → exists settings ts (Sending p) ≡ true → Whole (stringBytes settings ts (Sending p))
+  sent-whole good p e =
+      let (there, at) = somewhere-parts settings ts p e in
+      let g = segmentIn settings ts p in
+      let (short, fits) = segments-right settings (getD ts (p .transaction) []) (legal-at ts (p .transaction) good there) (p .block) at in
+      block-whole (g .info) (g .ending) short fits
 
--- so does the goodbye
-pub bye-sent : (settings : Settings) (ts : List (List ℕ)) (p : Place) → Whole (stringBytes settings ts (Closing p))
-bye-sent settings ts p = bye-whole
+  -- each block that it sends, met with nothing held, comes out unaltered and alone, nothing held behind it
+  pub block-sent : allLegal ts ≡ true → (p : Place) → exists settings ts (Sending p) ≡ true →
+      let s = stringBytes settings ts (Sending p) in
+      Drives (stateOf []) (s ∷ []) (s ∷ []) (stateOf [])
+  block-sent good p e = whole-alone (sent-whole good p e)
+
+  -- two in a row come out as the two
+  pub blocks-sent : allLegal ts ≡ true → (p q : Place) → exists settings ts (Sending p) ≡ true → exists settings ts (Sending q) ≡ true →
+      let s = stringBytes settings ts (Sending p) in
+      let t = stringBytes settings ts (Sending q) in
+      Drives (stateOf []) ((s ++ t) ∷ []) (s ∷ t ∷ []) (stateOf [])
+  blocks-sent good p q e f = whole-drives (block-sent good q f) (sent-whole good p e)
+
+  -- and so does EOT CR
+  pub bye-sent : (p : Place) →
+      let s = stringBytes settings ts (Closing p) in
+      Drives (stateOf []) (s ∷ []) (s ∷ []) (stateOf [])
+  bye-sent p = whole-alone bye-whole
 
 -- ── What the central recognizes ──
 
@@ -78,13 +94,6 @@ recognized-bye t = go (same t (EOT ∷ CR ∷ [])) refl (readBlock t)
     go true equal o e = same-equal t (EOT ∷ CR ∷ []) equal
     go false equal o e = absurd (never o e)
 
--- two bytes that are EOT CR on their low seven bits
-two-whole : (s : List ℕ) → map sevenBits s ≡ EOT ∷ CR ∷ [] → Whole s
-two-whole [] e = let z : _≡_ {A = ℕ} 0 1 = cc in absurd (omega arith)
-two-whole (a ∷ []) e = let z : _≡_ {A = ℕ} 0 1 = cc in absurd (omega arith)
-two-whole (a ∷ b ∷ []) e = let first : sevenBits a ≡ EOT = cc in goodbye a b (rw first)
-two-whole (a ∷ b ∷ c ∷ s) e = let z : _≡_ {A = ℕ} 0 1 = cc in absurd (omega arith)
-
 -- a string that the Block stage hears as a goodbye is whole
 pub heard-bye-whole : (s : List ℕ) → heard Block s ≡ bye → Whole s
 unfolding heard
@@ -92,7 +101,7 @@ heard-bye-whole [] e = let z : _≡_ {A = ℕ} 0 1 = cc in absurd (omega arith)
 heard-bye-whole (b ∷ bs) e = go (parityOff (b ∷ bs) 256) refl e
   where
     go : (o : Outcome (List ℕ)) → parityOff (b ∷ bs) 256 ≡ o → heardText Block o ≡ bye → Whole (b ∷ bs)
-    go (done t) off e = two-whole (b ∷ bs) (off-seven (b ∷ bs) t 256 off ∙ recognized-bye t e)
+    go (done t) off e = seven-bye (b ∷ bs) (off-seven (b ∷ bs) t 256 off ∙ recognized-bye t e)
     go (refused n) off e = let z : _≡_ {A = ℕ} 0 1 = cc in absurd (omega arith)
 
 -- ── Through the framer ──
