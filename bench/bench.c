@@ -330,6 +330,8 @@ static void measure_characters(void) {
         ANSWERED(TITLE("parity clear, %zu", n), SIDE(clear_parity)(line, n, out, n), out, 300);
     }
     for (int i = 0; i < 2; i++) NUMBERED(TITLE("checksum, %zu", sums[i]), SIDE(checksum)(text, sums[i]));
+    NUMBERED("checksum, one character more", SIDE(checksum_add)(4095, 'A'));
+    ANSWERED("check characters of a sum", SIDE(check_characters)(379, out, 3), out, 300);
     for (int i = 0; i < 2; i++) {
         size_t n = blocks[i];
         make_transaction(text, n);
@@ -666,6 +668,12 @@ static void random_characters(size_t calls) {
         NUMBERED(NULL, SIDE(checksum)(text, n));
     }
     summed("checksum");
+    for (size_t i = 0; i < calls; i++)
+        NUMBERED(NULL, SIDE(checksum_add)((uint16_t)below(65536), (uint8_t)below(256)));
+    summed("one character more");
+    for (size_t i = 0; i < calls; i++, seen[code]++)
+        ANSWERED(NULL, SIDE(check_characters)((uint16_t)below(65536), out, any_room(3)), out, 300);
+    summed("check characters of a sum");
     for (size_t i = 0; i < calls; i++, seen[code]++) {
         static const uint8_t endings[] = {3, 0x17, 0x1F, 3, 0x17, 0x1F, 0x1E};
         size_t n = any_length(250);

@@ -78,6 +78,16 @@ static void put_check(unsigned sum, uint8_t *to) {
     to[2] = (uint8_t)(0x30 + (sum & 15));
 }
 
+uint16_t twin_checksum_add(uint16_t sum, uint8_t character) {
+    return (uint16_t)((sum + (character & 0x7F)) & 0xFFF);
+}
+
+twin_answer twin_check_characters(uint16_t sum, uint8_t *out, size_t room) {
+    if (room < 3) return refused(1);
+    put_check(sum, out);
+    return done(3);
+}
+
 // The rule of the ending.
 static int agrees(const uint8_t *info, size_t n, uint8_t ending) {
     if (n == 0) return 0;

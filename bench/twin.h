@@ -69,6 +69,8 @@ typedef struct {
 twin_answer twin_set_parity(const uint8_t *text, size_t n, uint8_t *out, size_t room);
 twin_answer twin_clear_parity(const uint8_t *line, size_t n, uint8_t *out, size_t room);
 uint16_t twin_checksum(const uint8_t *text, size_t n);
+uint16_t twin_checksum_add(uint16_t sum, uint8_t character);
+twin_answer twin_check_characters(uint16_t sum, uint8_t *out, size_t room);
 twin_answer twin_write_block(const uint8_t *info, size_t n, uint8_t ending, uint8_t *out, size_t room);
 twin_answer twin_read_block(const uint8_t *text, size_t n);
 twin_answer twin_write_segments(const uint8_t *info, size_t n, uint8_t *out, size_t room);

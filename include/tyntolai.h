@@ -49,6 +49,13 @@ tyntolai_answer tyntolai_clear_parity(const uint8_t *line, size_t line_length, u
 // The sum of the 7-bit values, modulo 4,096.
 uint16_t tyntolai_checksum(const uint8_t *text, size_t text_length);
 
+// The same for a caller that brings characters one at a time, from 0 on: the sum with one character
+// more, modulo 4,096. Twelve bits hold it, whatever the sum was.
+uint16_t tyntolai_checksum_add(uint16_t sum, uint8_t character);
+
+// The three characters that carry a sum, modulo 4,096: count is 3. Refusal 1.
+tyntolai_answer tyntolai_check_characters(uint16_t sum, uint8_t *out, size_t room);
+
 // A block of at most 250 characters of information with an ending, 03, 17 or 1F hex (ETX, ETB, US):
 // six characters more. Parity is off. Refusals 9 (ending), 1, 2, 3, 6.
 tyntolai_answer tyntolai_write_block(const uint8_t *info, size_t info_length, uint8_t ending, uint8_t *out,

@@ -2,9 +2,9 @@
 """Writes crates/vectors/stdin and stdout: calls, and what documents 01 and 02 say comes of each; and the same of the lines that crates/blocks reads.
 
 The answers come from a model of document 01 that is written here in Python, from the paper and not from the Rattle sources, and from the
-numbers that the paper prints, which are asserted below, as demand 3 is of every run. Four parts are younger, and by people who knew the Rattle sources:
-the walk of a journal, single steps from saved states, that hanging up tests no pager list (a decision, which the model followed), and the framer of
-document 02, which is written twice here. Of those it is a second writing and no second opinion. The program `vectors` makes the calls on the proved
+numbers that the paper prints, which are asserted below, as demand 3 is of every run. Five parts are younger, and by people who knew the Rattle sources:
+the walk of a journal, single steps from saved states, that hanging up tests no pager list (a decision, which the model followed), and of document 02 the
+framer, which is written twice here, and sums that are added to. Of those it is a second writing and no second opinion. The program `vectors` makes the calls on the proved
 functions; the gate compares.
 
 A line of stdin is a call: a letter, then arguments with a space before each. Bytes are hex pairs; `*` and four hex digits behind a pair repeat it;
@@ -73,9 +73,12 @@ def clear_parity(line, room):
 
 
 # ── blocks ──
+def carrying(s):
+    return bytes([0x30 | s >> 8 & 15, 0x30 | s >> 4 & 15, 0x30 | s & 15])
+
+
 def check_characters(text):
-    s = sum(c & 0x7F for c in text) & 0xFFF
-    return bytes([0x30 | s >> 8, 0x30 | s >> 4 & 15, 0x30 | s & 15])
+    return carrying(sum(c & 0x7F for c in text))
 
 
 def block(info, e):
@@ -195,6 +198,17 @@ def q(line, room=None):
 
 def c(text):
     call("c", hexed(text), answer=lambda: "%d %s" % (sum(x & 0x7F for x in text) % 4096, plain(check_characters(text))))
+
+
+def b(start, *pieces):
+    """A sum with pieces behind it: after each the sum, which has every value since the start and is reduced once."""
+    assert len(pieces) <= 29  # what the program has room for
+
+    def a():
+        texts = [b"".join(pieces[:i + 1]) for i in range(len(pieces))]
+        sums = [(start + sum(x & 0x7F for x in text)) % 4096 if text else start for text in texts]
+        return " ".join([str(x) for x in sums] + [plain(carrying((sums or [start])[-1]))])
+    call("b", number(start), *[hexed(x) for x in pieces], answer=a)
 
 
 def w(info, e, room=None):
@@ -1239,6 +1253,27 @@ def lines(rng):
     return b"\n".join(rows), b"".join(map(listing, rows))
 
 
+# ── a sum that is added to ──
+def sums(rng):
+    # the paper's sums, a character at a time, and as today
+    for text, n in ((b"\x02123\rABC\r\x03", 379), (b"\x027\r\r\x03", 86)):
+        assert sum(text) == n
+        b(0, *[bytes([x]) for x in text])
+    # long texts, whole and in any pieces, empty ones too
+    for text in (b"\x02" + b"~" * 249 + b"\r\x03", b"\xff" * 5000, b"\x7f" * 516, b"\x7f" * 517, b"~" * 65000, b"\x80" * 300 + b"\x7f" * 33, b"A" * 63 + b"\xff" * 60000 + b"\r",
+                 rng.randbytes(300)):
+        c(text), b(0, text)
+        for _ in range(4):
+            b(0, *anyhow(rng, text, 8))
+        b(0, b"", *anyhow(rng, text, 3), b"", b"")
+    # one character more at the limits, whatever the sum was
+    for start, x in itertools.product((0, 1, 3968, 3969, 4094, 4095, 4096, 8191, 61440, 65408, 65409, 65535), (0, 1, 0x7F, 0x80, 0x81, 0xFF)):
+        b(start, bytes([x]))
+    # nothing is added
+    for start in (0, 379, 4095, 4096, 65535):
+        b(start), b(start, b""), b(start, b"", b"~")
+
+
 def main():
     rng = random.Random(1861)
     codec(rng)
@@ -1252,6 +1287,7 @@ def main():
     device_steps(rng)
     walks()
     framing(rng)
+    sums(rng)
     crates = os.path.join(os.path.dirname(os.path.abspath(__file__)), "..", "crates")
     vectors = ["\n".join(rows + [""]).encode() for rows in (calls, answers)]
     for crate, files in (("vectors", vectors), ("blocks", program)):

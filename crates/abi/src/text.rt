@@ -4,6 +4,8 @@ use crate::answer::of_refusal;
 use crate::answer::of_written;
 use block::Ending;
 use block::Reading;
+use block::checksum::add;
+use block::checksum::sum_characters;
 use block::frame::inside;
 use block::frame::read;
 use block::frame::write;
@@ -11,12 +13,14 @@ use line::Refusal;
 use line::character::ETB;
 use line::character::ETX;
 use line::character::US;
+use line::memory::copy;
 use line::parity::clear_parity;
 use line::parity::set_parity;
 use segmentation::write_segments;
 ghost use mathlib.Core.Path.{_≡_};
+ghost use Prim.Native.Nat.{_%_};
 ghost use lib.ListN.{length};
-ghost use Rattle.line.specs.Answer.{mapDone};
+ghost use Rattle.line.specs.Answer.{copied, mapDone};
 ghost use Rattle.line.specs.Parity.{parityOff, parityOn};
 ghost use Rattle.block.specs.Block.{readBlock};
 ghost use Rattle.block.specs.Checksum as Checksum;
@@ -50,6 +54,25 @@ pub extern "C" fn tyntolai_checksum(text: &[u8]) -> u16
     ensures { λ r. ⌜ r ≡ Checksum.checksum (now (text .entry)) ⌝ }
 {
     block::checksum::checksum(text)
+}
+
+// The sum with one character more, modulo 4,096.
+#[no_mangle]
+pub extern "C" fn tyntolai_checksum_add(sum: u16, character: u8) -> u16
+    ensures { λ r. ⌜ r ≡ Checksum.added sum character ⌝ }
+{
+    add(sum, character)
+}
+
+// The three characters that carry a sum, modulo 4,096.
+#[no_mangle]
+pub extern "C" fn tyntolai_check_characters(sum: u16, out: &mut [u8]) -> Answer
+    ensures { λ r. ⌜
+        Puts (copied (Checksum.checkCharacters (sum % 4096)) (length (now (out .entry))))
+        r (now (out .entry)) (now (out .exit)) ⌝ }
+{
+    let check = sum_characters(sum);
+    of_written(copy(&check, out))
 }
 
 // A block of the information with the ending of this character.

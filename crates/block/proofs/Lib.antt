@@ -1,2 +1,3 @@
+pub mod ChecksumLaws
 pub mod FrameLaws
 pub mod SegmentsLaws

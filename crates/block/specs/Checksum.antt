@@ -12,6 +12,10 @@ valueSum (c ∷ cs) = sevenBits c + valueSum cs
 abbrev pub checksum : List ℕ → ℕ
 checksum cs = valueSum cs % 4096
 
+-- a sum with one character more, modulo 4,096 (R-2.9)
+abbrev pub added : ℕ → ℕ → ℕ
+added sum c = (sum + sevenBits c) % 4096
+
 -- a checksum as three characters, 30 hex plus four bits each, highest first (R-2.5)
 unfoldable pub checkCharacters : ℕ → List ℕ
 checkCharacters s = (0x30 + s / 256) ∷ (0x30 + s / 16 % 16) ∷ (0x30 + s % 16) ∷ []

@@ -1,17 +1,25 @@
 // The checksum of a block: the sum of its 7-bit values, modulo 4,096, as three characters.
 ghost use mathlib.Core.Path.{_≡_};
-ghost use Prim.Native.Nat.{_+_, _<_};
+ghost use Prim.Native.Nat.{_+_, _%_, _<_};
 ghost use Rattle.block.specs.Checksum as Checksum;
 ghost use Rattle.line.specs.Parity.{sevenBits};
 
-// The sum of the 7-bit values, modulo 4,096.
+// The sum with one character more, modulo 4,096: whatever the sum was, twelve bits hold it.
+pub fn add(sum: u16, character: u8) -> u16
+    ensures { λ r. ⌜ (r < 4096) × (r ≡ Checksum.added sum character) ⌝ }
+{
+    let more = sum % 4096 + low_seven(character);
+    more % 4096
+}
+
+// The sum of the 7-bit values, modulo 4,096: `add` folded over the text, from nought.
 pub fn checksum(text: &[u8]) -> u16
     ensures { λ r. ⌜ r ≡ Checksum.checksum (now (text .entry)) ⌝ }
 {
     let mut sum: u16 = 0;
     let mut i = 0;
     while i < text.len() {
-        sum = (sum + low_seven(text[i])) % 4096;
+        sum = add(sum, text[i]);
         i += 1;
     }
     sum
@@ -24,7 +32,14 @@ pub type Check = [u8; 3];
 pub fn check_characters(text: &[u8]) -> Check
     ensures { λ r. ⌜ r ≡ Checksum.checkCharacters (Checksum.checksum (now (text .entry))) ⌝ }
 {
-    let sum = checksum(text);
+    sum_characters(checksum(text))
+}
+
+// The characters that carry a sum, modulo 4,096, highest four bits first.
+pub fn sum_characters(sum: u16) -> Check
+    ensures { λ r. ⌜ r ≡ Checksum.checkCharacters (sum % 4096) ⌝ }
+{
+    let sum = sum % 4096;
     [carry(sum / 256), carry(sum / 16 % 16), carry(sum % 16)]
 }
 

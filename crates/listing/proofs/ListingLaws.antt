@@ -27,10 +27,11 @@ use Rattle.line.proofs.OutcomeLaws.{choice, passed}
 use Rattle.line.proofs.OverlayLaws.{overlay-own}
 use Rattle.line.proofs.TransactionLaws.{ends-last}
 use Rattle.block.specs.Block.{endingCharacter, summed, blockOf}
-use Rattle.block.specs.Checksum.{valueSum, checksum, checkCharacters}
+use Rattle.block.specs.Checksum.{valueSum, checksum, added, checkCharacters}
 use Rattle.block.specs.Segments.{segment, segmentBlock}
 use Rattle.block.specs.declared.frame.Ending.{Ending}
-use Rattle.block.specs.declared.frame.Ending.the-variants.{Etx, Etb, Us}
+use Rattle.block.specs.declared.frame.Ending.the-variants.{Etx}
+use Rattle.block.proofs.ChecksumLaws.{checksum-more}
 use Rattle.segmentation.specs.Segmentation.{innerEnding, segmentation, segmentAt, blockCount}
 use Rattle.segmentation.proofs.SegmentationLaws.{segment-at, segment-short, segmentation-count}
 use Rattle.listing.specs.Listing.{shown, printedBlock, lineEnd, Added, Cut, segmentOf, spaced, fieldsOf, checkedLine}
@@ -214,25 +215,12 @@ part-room part space cut room d k h =
 
 -- ── The sum of a block ──
 
--- the sum of two lists joined
-sum-append : (s t : List ℕ) → valueSum (s ++ t) ≡ valueSum s + valueSum t
-unfolding valueSum
-sum-append [] t = omega arith
-sum-append (c ∷ s) t = rw (sum-append s t) (omega arith)
-
 -- CR in the place of a space takes 19 off
 pub sum-marked : (part : List ℕ) (space : ℕ) → space < length part → getD part space 0 ≡ 0x20 → valueSum (set part space CR) + 19 ≡ valueSum part
 unfolding valueSum
 sum-marked [] space h e = absurd (not-suc-le-zero h)
 sum-marked (c ∷ part) zero h e = rw e (omega arith)
 sum-marked (c ∷ part) (suc space) h e = omega (arith, sum-marked part space (le-of-suc-le-suc h) e)
-
--- STX and the ending add their values
-sum-summed : (info : List ℕ) (e : Ending) → valueSum (summed info e) ≡ valueSum info + (2 + endingCharacter e)
-unfolding valueSum
-sum-summed info Etx = rw sum-append (omega arith)
-sum-summed info Etb = rw sum-append (omega arith)
-sum-summed info Us = rw sum-append (omega arith)
 
 -- ── What a block prints ──
 
@@ -256,33 +244,23 @@ printed-parts info e =
     regroup : (a b c d e : List ℕ) → (((a ++ b) ++ c) ++ d) ++ e ≡ a ++ (b ++ (c ++ (d ++ e)))
     regroup a b c d e = simp append-assoc
 
-module _ (part : List ℕ) (space sum : ℕ) (right : sum % 4096 ≡ checksum (set part space CR)) where
+module _ (part : List ℕ) (space sum : ℕ) (right : checksum (STX ∷ set part space CR) ≡ sum) where
   -- of the last one
-  pub printed-last :
-      printedBlock (segmentOf part space true) ≡ bytesOf "<STX>" ++ (flatMap shown (set part space CR) ++ (bytesOf "<CR><ETX>" ++ lineEnd ((sum + 18) % 4096)))
-  unfolding flatMap shown valueSum
-  printed-last =
+  pub printed-last : {end : ℕ} → end ≡ added (added sum CR) ETX →
+      printedBlock (segmentOf part space true) ≡ bytesOf "<STX>" ++ (flatMap shown (set part space CR) ++ (bytesOf "<CR><ETX>" ++ lineEnd (end % 4096)))
+  unfolding flatMap shown
+  printed-last {end} h =
       let s = set part space CR in
-      let check : checksum (summed (s ++ CR ∷ []) Etx) ≡ (sum + 18) % 4096 = omega (arith, sum-summed (s ++ CR ∷ []) Etx, sum-append s (CR ∷ [])) in
+      let check : checksum (summed (s ++ CR ∷ []) Etx) ≡ end % 4096 = checksum-more (STX ∷ s ++ CR ∷ []) ETX ∙ rw (checksum-more (STX ∷ s) CR, right) (omega (arith, h)) in
       printed-parts (s ++ CR ∷ []) Etx ∙ rw (check, flat-append shown s (CR ∷ []), append-assoc)
 
-  -- of one whose last field is complete
-  pub printed-whole : endsInCR (set part space CR) ≡ true →
-      printedBlock (segmentOf part space false) ≡ bytesOf "<STX>" ++ (flatMap shown (set part space CR) ++ (bytesOf "<ETB>" ++ lineEnd ((sum + 25) % 4096)))
-  unfolding shown
-  printed-whole e =
+  -- of one behind which the transaction goes on, with the ending that its last field asks for
+  pub printed-inner : {end : ℕ} (e : Ending) → innerEnding (set part space CR) ≡ e → end ≡ added sum (endingCharacter e) →
+      printedBlock (segmentOf part space false) ≡ bytesOf "<STX>" ++ (flatMap shown (set part space CR) ++ (shown (endingCharacter e) ++ lineEnd (end % 4096)))
+  printed-inner {end} e asked h =
       let s = set part space CR in
-      let check : checksum (summed s Etb) ≡ (sum + 25) % 4096 = omega (arith, sum-summed s Etb) in
-      rw e (printed-parts s Etb ∙ rw check)
-
-  -- of one whose last field is broken
-  pub printed-broken : endsInCR (set part space CR) ≡ false →
-      printedBlock (segmentOf part space false) ≡ bytesOf "<STX>" ++ (flatMap shown (set part space CR) ++ (bytesOf "<US>" ++ lineEnd ((sum + 33) % 4096)))
-  unfolding shown
-  printed-broken e =
-      let s = set part space CR in
-      let check : checksum (summed s Us) ≡ (sum + 33) % 4096 = omega (arith, sum-summed s Us) in
-      rw e (printed-parts s Us ∙ rw check)
+      let check : checksum (summed s e) ≡ end % 4096 = checksum-more (STX ∷ s) (endingCharacter e) ∙ rw right (omega (arith, h)) in
+      rw asked (printed-parts s e ∙ rw check)
 
 -- ── The segments of a line ──
 

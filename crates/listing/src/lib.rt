@@ -1,12 +1,19 @@
 // What the program `blocks` prints for one line of its input.
+use block::checksum::add;
 use block::checksum::checksum;
+use block::checksum::sum_characters;
 use block::frame::INFORMATION;
 use line::Checked;
 use line::Refusal;
 use line::Written;
 use line::answer::number;
+use line::character::CR;
 use line::character::Class;
+use line::character::ETB;
+use line::character::ETX;
 use line::character::LF;
+use line::character::STX;
+use line::character::US;
 use line::character::are;
 use line::memory::copy;
 use line::memory::find;
@@ -32,13 +39,6 @@ const LINE: usize = 1999;
 
 // CR in the place of a space, in a sum modulo 4,096.
 const CR_FOR_SPACE: u16 = 4077;
-
-// The values of STX and of what stands behind the characters of the line: CR and ETX, ETB, or US.
-const STX_CR_ETX: u16 = 18;
-
-const STX_ETB: u16 = 25;
-
-const STX_US: u16 = 33;
 
 // The blocks of the transaction that a line is, cut at its first space into two fields, each block
 // printed on a line of its own; or the line `refused` with the number.
@@ -144,14 +144,14 @@ fn put_part(part: &[u8], space: usize, last: bool, out: &mut [u8], at: usize) ->
 {
     let start = put_text(b"<STX>", out, at);
     let end = put_shown(part, space, out, start);
-    let sum = part_sum(part, space);
+    let sum = add(part_sum(part, space), STX);
     if last {
-        return put_end(b"<CR><ETX>", sum + STX_CR_ETX, out, end);
+        return put_end(b"<CR><ETX>", add(add(sum, CR), ETX), out, end);
     }
     if space + 1 == part.len() {
-        return put_end(b"<ETB>", sum + STX_ETB, out, end);
+        return put_end(b"<ETB>", add(sum, ETB), out, end);
     }
-    put_end(b"<US>", sum + STX_US, out, end)
+    put_end(b"<US>", add(sum, US), out, end)
 }
 
 // The characters as they are printed.
@@ -176,7 +176,7 @@ fn part_sum(part: &[u8], space: usize) -> u16
 {
     let sum = checksum(part);
     if space < part.len() {
-        return sum + CR_FOR_SPACE;
+        return (sum + CR_FOR_SPACE) % 4096;
     }
     sum
 }
@@ -190,24 +190,9 @@ fn put_end(names: &[u8], sum: u16, out: &mut [u8], at: usize) -> usize
         r (now (out .entry)) (now (out .exit)) ⌝ }
 {
     let end = put_text(names, out, at);
-    let check = [
-        carry(sum / 256),
-        carry(sum / 16),
-        carry(sum),
-        b'<',
-        b'C',
-        b'R',
-        b'>',
-        LF,
-    ];
-    put_text(&check, out, end)
-}
-
-// The character that carries the lowest four bits.
-fn carry(bits: u16) -> u8
-    ensures { λ r. ⌜ r ≡ 0x30 + bits % 16 ⌝ }
-{
-    (0x30 + bits % 16) as u8
+    let check = sum_characters(sum);
+    let line_end = [check[0], check[1], check[2], b'<', b'C', b'R', b'>', LF];
+    put_text(&line_end, out, end)
 }
 
 // A text, behind what is there.

@@ -26,8 +26,10 @@ use crate::names::say;
 use crate::runs::print_run;
 use block::Ending;
 use block::Reading;
+use block::checksum::add;
 use block::checksum::check_characters;
 use block::checksum::checksum;
+use block::checksum::sum_characters;
 use block::frame::information;
 use journal::Step;
 use journal::buffer::BUFFER;
@@ -66,6 +68,7 @@ pub(crate) fn print_answer(call: &[u8]) {
     let text = text(call);
     match byte(call, LETTER) {
         b'c' => print_checksum(text),
+        b'b' => print_sums(call),
         b'r' => print_block(text),
         b'y' => say(reply_name(reply::read(text))),
         b'j' => print_reassembly(call),
@@ -201,6 +204,33 @@ fn print_checksum(text: &[u8]) {
     print_number(NOTHING, checksum(text) as usize);
     let check = check_characters(text);
     print_bytes(SPACE, &check);
+}
+
+// The sum that the first argument is, with the pieces behind it: the sum after each, and the
+// characters that carry the last.
+fn print_sums(call: &[u8]) {
+    let count = byte(call, COUNT);
+    let mut sum = number(call, 1) as u16;
+    let mut index = 1;
+    while index < count {
+        index += 1;
+        sum = add_piece(sum, word(call, index));
+        print_number(NOTHING, sum as usize);
+        say(SPACE);
+    }
+    let check = sum_characters(sum);
+    print_bytes(NOTHING, &check);
+}
+
+// The sum with a piece more, a character at a time.
+fn add_piece(sum: u16, piece: &[u8]) -> u16 {
+    let mut sum = sum;
+    let mut i = 0;
+    while i < piece.len() {
+        sum = add(sum, piece[i]);
+        i += 1;
+    }
+    sum
 }
 
 // The ending and the information of the block that the text is.

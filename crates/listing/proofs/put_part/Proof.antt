@@ -1,41 +1,48 @@
 -- `put_part` meets its contract: STX is put, the characters, and what their end and the sum ask for, which is the block of the segment that they are.
-use mathlib.Core.List.{_++_, flatMap}
-use mathlib.Core.Path.{_∙_}
+use mathlib.Core.List.{_∷_, _++_, flatMap}
+use mathlib.Core.Path.{_≡_, _∙_}
 use Prim.Native.Nat.{ℕ, _+_, _≤_}
 use native.Mathlib.Omega.{arith}
 use borrow.Author.Tests.{eq-eqb, ne-eqb}
 use lib.Dec.{lit≤}
 use lib.ListN.{length, set}
-use Rattle.line.specs.Character.{CR}
+use Rattle.line.specs.Character.{STX, CR}
 use Rattle.line.specs.Text.{bytesOf}
+use Rattle.block.specs.Checksum.{valueSum, checksum}
+use Rattle.block.specs.declared.frame.Ending.the-variants.{Etb, Us}
 use Rattle.listing.specs.Listing.{Added, shown}
-use Rattle.listing.proofs.ListingLaws.{added-length, added-more, part-room, printed-last, printed-whole, printed-broken, ends-marked}
+use Rattle.listing.proofs.ListingLaws.{added-length, added-more, part-room, printed-last, printed-inner, ends-marked}
 use borrow.Author.Needs.{needs}
 use Rattle.listing.proofs.put_part.Statement.{statement}
 use Rattle.listing.proofs.put_part.Tie as tie
 
 -- where the function starts
-abbrev start : tie.After-part-sum → tie.Start
-start c = c .before .before .before .before .before .before .before .before .before .before .before .before
+abbrev start : tie.After-add → tie.Start
+start c = c .before .before .before .before .before .before .before .before .before .before .before .before .before
 
 -- the memory reaches to its place
 inside : (s : tie.Start) → s .args .at ≤ length (s .args .out .now)
 inside s = omega (arith, s .pre .1)
 
 -- the characters are put behind STX
-text : (c : tie.After-part-sum) →
-    let h = c .before .before .before in
+text : (c : tie.After-add) →
+    let h = c .before .before .before .before in
     let a = start c .args in
     Added (a .at) (bytesOf "<STX>" ++ flatMap shown (set (a .part .now) (a .space) CR)) (h .put-shown .result) (a .out .now) (h .put-shown .last .1 .1 .0)
 text c =
-    let h = c .before .before .before in
+    let h = c .before .before .before .before in
     added-more (h .before .before .before .before .put-text .ensures) (inside (start c)) (h .put-shown .ensures)
 
 -- and leave room for its end
-room : (c : tie.After-part-sum) (k : ℕ) → k ≤ 9 →
-    let h = c .before .before .before in
+room : (c : tie.After-add) (k : ℕ) → k ≤ 9 →
+    let h = c .before .before .before .before in
     h .put-shown .result + k + 8 ≤ length (h .put-shown .last .1 .1 .0)
 room c = let s = start c in part-room (s .args .part .now) (s .args .space) (s .pre .0) (s .pre .1) (text c)
+
+-- the sum is of STX and the characters
+summed : (c : tie.After-add) → checksum (STX ∷ set (start c .args .part .now) (start c .args .space) CR) ≡ c .add .result
+unfolding valueSum
+summed c = omega (arith, c .before .part-sum .ensures .1, c .add .ensures .1)
 
 slice-aggregate-put-text : tie.Need-slice-aggregate-put-text
 slice-aggregate-put-text c = search needs
@@ -53,24 +60,32 @@ put-shown-requires c κs =
 part-sum-requires : tie.Need-part-sum-requires
 part-sum-requires c κs = search needs
 
+add-requires : tie.Need-add-requires
+add-requires c κs = search needs
+
 slice-aggregate-put-end : tie.Need-slice-aggregate-put-end
 slice-aggregate-put-end c = search needs
 
-add-put-end : tie.Need-add-put-end
-add-put-end c = search needs
+add-requires-2 : tie.Need-add-requires-2
+add-requires-2 c κs = search needs
+
+add-requires-3 : tie.Need-add-requires-3
+add-requires-3 c κs = search needs
 
 put-end-requires : tie.Need-put-end-requires
-put-end-requires c κs = room (c .before .before .before) 9 (lit≤ tt)
+put-end-requires c κs = room (c .before .before .before .before .before) 9 (lit≤ tt)
 
 same-length : tie.Need-same-length
 same-length c = search needs
 
 returns : tie.Need-returns
 returns c =
-    let i = c .before .before .before .before .before in
+    let e = c .before .before .before .before in
+    let i = e .before .before .before in
     let p = i .before in
     let s = start p in
-    rw (i .if1 .taken, printed-last (s .args .part .now) (s .args .space) (p .part-sum .result) (p .part-sum .ensures .1)) (added-more (text p) (inside s) (c .before .before .put-end .ensures))
+    rw (i .if1 .taken, printed-last (s .args .part .now) (s .args .space) (p .add .result) (summed p) (rw (e .before .add2 .ensures .1) at (e .add3 .ensures .1)))
+    (added-more (text p) (inside s) (c .before .before .put-end .ensures))
 
 add-if2 : tie.Need-add-if2
 add-if2 c = search needs
@@ -78,46 +93,50 @@ add-if2 c = search needs
 slice-aggregate-put-end-2 : tie.Need-slice-aggregate-put-end-2
 slice-aggregate-put-end-2 c = search needs
 
-add-put-end-2 : tie.Need-add-put-end-2
-add-put-end-2 c = search needs
+add-requires-4 : tie.Need-add-requires-4
+add-requires-4 c κs = search needs
 
 put-end-requires-2 : tie.Need-put-end-requires-2
-put-end-requires-2 c κs = room (c .before .before .before .before) 5 (lit≤ tt)
+put-end-requires-2 c κs = room (c .before .before .before .before .before) 5 (lit≤ tt)
 
 same-length-2 : tie.Need-same-length-2
 same-length-2 c = search needs
 
 returns-2 : tie.Need-returns-2
+unfolding shown
 returns-2 c =
-    let i = c .before .before .before .before .before in
+    let e = c .before .before .before .before in
+    let i = e .before .before in
     let p = i .before .before in
     let s = start p in
     let part = s .args .part .now in
     let space = s .args .space in
     let ends = ends-marked part space (s .pre .0 .text) ∙ eq-eqb (space + 1) (length part) (i .if2 .taken) in
-    rw (i .before .if1 .left, printed-whole part space (p .part-sum .result) (p .part-sum .ensures .1) ends) (added-more (text p) (inside s) (c .before .before .put-end2 .ensures))
+    rw (i .before .if1 .left, printed-inner part space (p .add .result) (summed p) Etb (rw ends) (e .add4 .ensures .1)) (added-more (text p) (inside s) (c .before .before .put-end2 .ensures))
 
 slice-aggregate-put-end-3 : tie.Need-slice-aggregate-put-end-3
 slice-aggregate-put-end-3 c = search needs
 
-add-put-end-3 : tie.Need-add-put-end-3
-add-put-end-3 c = search needs
+add-requires-5 : tie.Need-add-requires-5
+add-requires-5 c κs = search needs
 
 put-end-requires-3 : tie.Need-put-end-requires-3
-put-end-requires-3 c κs = room (c .before .before .before .before) 4 (lit≤ tt)
+put-end-requires-3 c κs = room (c .before .before .before .before .before) 4 (lit≤ tt)
 
 same-length-3 : tie.Need-same-length-3
 same-length-3 c = search needs
 
 returns-3 : tie.Need-returns-3
+unfolding shown
 returns-3 c =
-    let i = c .before .before .before .before .before in
+    let e = c .before .before .before .before in
+    let i = e .before .before in
     let p = i .before .before in
     let s = start p in
     let part = s .args .part .now in
     let space = s .args .space in
     let ends = ends-marked part space (s .pre .0 .text) ∙ ne-eqb (space + 1) (length part) (i .if2 .left) in
-    rw (i .before .if1 .left, printed-broken part space (p .part-sum .result) (p .part-sum .ensures .1) ends) (added-more (text p) (inside s) (c .before .before .put-end3 .ensures))
+    rw (i .before .if1 .left, printed-inner part space (p .add .result) (summed p) Us (rw ends) (e .add5 .ensures .1)) (added-more (text p) (inside s) (c .before .before .put-end3 .ensures))
 
 pub put-part-spec : {M : Type 1} → statement M
 put-part-spec =
@@ -127,19 +146,21 @@ put-part-spec =
     put-text-requires
     put-shown-requires
     part-sum-requires
+    add-requires
     slice-aggregate-put-end
-    add-put-end
+    add-requires-2
+    add-requires-3
     put-end-requires
     same-length
     returns
     add-if2
     slice-aggregate-put-end-2
-    add-put-end-2
+    add-requires-4
     put-end-requires-2
     same-length-2
     returns-2
     slice-aggregate-put-end-3
-    add-put-end-3
+    add-requires-5
     put-end-requires-3
     same-length-3
     returns-3)

@@ -1,5 +1,8 @@
--- `check_characters` meets its contract: each character carries its four bits of the sum.
-use Rattle.block.specs.Checksum.{checkCharacters}
+-- `check_characters` meets its contract: a checksum is a rest of 4,096 already.
+use mathlib.Core.Path.{_≡_}
+use Prim.Native.Nat.{_%_}
+use native.Mathlib.Omega.{arith}
+use Rattle.block.specs.Checksum.{checksum}
 use borrow.Author.Needs.{needs}
 use Rattle.block.proofs.checksum.check_characters.Statement.{statement}
 use Rattle.block.proofs.checksum.check_characters.Tie as tie
@@ -7,19 +10,14 @@ use Rattle.block.proofs.checksum.check_characters.Tie as tie
 checksum-requires : tie.Need-checksum-requires
 checksum-requires c κs = search needs
 
-carry-requires : tie.Need-carry-requires
-carry-requires c κs = search needs
-
-carry-requires-2 : tie.Need-carry-requires-2
-carry-requires-2 c κs = search needs
-
-carry-requires-3 : tie.Need-carry-requires-3
-carry-requires-3 c κs = search needs
+sum-characters-requires : tie.Need-sum-characters-requires
+sum-characters-requires c κs = search needs
 
 returns : tie.Need-returns
-unfolding checkCharacters
-returns c = rw (c .carry3 .ensures, c .before .carry2 .ensures, c .before .before .carry .ensures, c .before .before .before .checksum .ensures)
+returns c =
+    let sum = c .before .checksum in
+    let rest : sum .result % 4096 ≡ checksum (c .before .before .before .args .text .now) = omega (arith, sum .ensures) in
+    rw (c .sum-characters .ensures, rest)
 
 pub check-characters-spec : {M : Type 1} → statement M
-check-characters-spec =
-    tie.close (tie.spec checksum-requires carry-requires carry-requires-2 carry-requires-3 returns)
+check-characters-spec = tie.close (tie.spec checksum-requires sum-characters-requires returns)
