@@ -1,16 +1,19 @@
 -- `put_part` meets its contract: STX is put, the characters, and what their end and the sum ask for, which is the block of the segment that they are.
-use mathlib.Core.List.{_∷_, _++_, flatMap}
-use mathlib.Core.Path.{_≡_, _∙_}
-use Prim.Native.Nat.{ℕ, _+_, _≤_}
+use mathlib.Core.Bool.{Bool, true, false}
+use mathlib.Core.List.{List, _∷_, _++_, flatMap}
+use mathlib.Core.Path.{_≡_}
+use Prim.Native.Nat.{ℕ, _+_, _%_, _≤_}
 use native.Mathlib.Omega.{arith}
 use borrow.Author.Tests.{eq-eqb, ne-eqb}
-use lib.Dec.{lit≤}
+use lib.Dec.{lit≤, eqb}
 use lib.ListN.{length, set}
 use Rattle.line.specs.Character.{STX, CR}
+use Rattle.line.specs.Test.{if_then_else_}
 use Rattle.line.specs.Text.{bytesOf}
-use Rattle.block.specs.Checksum.{valueSum, checksum}
+use Rattle.block.specs.Block.{endingCharacter}
+use Rattle.block.specs.Checksum.{valueSum, checksum, added}
 use Rattle.block.specs.declared.frame.Ending.the-variants.{Etb, Us}
-use Rattle.listing.specs.Listing.{Added, shown}
+use Rattle.listing.specs.Listing.{Added, shown, printedBlock, segmentOf, lineEnd}
 use Rattle.listing.proofs.ListingLaws.{added-length, added-more, part-room, printed-last, printed-inner, ends-marked}
 use borrow.Author.Needs.{needs}
 use Rattle.listing.proofs.put_part.Statement.{statement}
@@ -43,6 +46,21 @@ room c = let s = start c in part-room (s .args .part .now) (s .args .space) (s .
 summed : (c : tie.After-add) → checksum (STX ∷ set (start c .args .part .now) (start c .args .space) CR) ≡ c .add .result
 unfolding valueSum
 summed c = omega (arith, c .before .part-sum .ensures .1, c .add .ensures .1)
+
+-- where the transaction goes on, ETB or US is put behind them, by whether the space was the last of them
+going-on : (c : tie.After-add) (last : Bool) {end n : ℕ} {out : List ℕ} →
+    let h = c .before .before .before .before in
+    let a = start c .args in
+    let ending = endingCharacter (if last then Etb else Us) in
+    eqb (a .space + 1) (length (a .part .now)) ≡ last → end ≡ added (c .add .result) ending →
+    Added (h .put-shown .result) (shown ending ++ lineEnd (end % 4096)) n (h .put-shown .last .1 .1 .0) out →
+    Added (a .at) (printedBlock (segmentOf (a .part .now) (a .space) false)) n (a .out .now) out
+going-on c last is-last sum put =
+    let s = start c in
+    let part = s .args .part .now in
+    let space = s .args .space in
+    rw (printed-inner part space (c .add .result) (summed c) (if last then Etb else Us) (rw (ends-marked part space (s .pre .0 .text), is-last)) sum)
+    (added-more (text c) (inside s) put)
 
 slice-aggregate-put-text : tie.Need-slice-aggregate-put-text
 slice-aggregate-put-text c = search needs
@@ -107,12 +125,7 @@ unfolding shown
 returns-2 c =
     let e = c .before .before .before .before in
     let i = e .before .before in
-    let p = i .before .before in
-    let s = start p in
-    let part = s .args .part .now in
-    let space = s .args .space in
-    let ends = ends-marked part space (s .pre .0 .text) ∙ eq-eqb (space + 1) (length part) (i .if2 .taken) in
-    rw (i .before .if1 .left, printed-inner part space (p .add .result) (summed p) Etb (rw ends) (e .add4 .ensures .1)) (added-more (text p) (inside s) (c .before .before .put-end2 .ensures))
+    rw (i .before .if1 .left) (going-on (i .before .before) true (eq-eqb _ _ (i .if2 .taken)) (e .add4 .ensures .1) (c .before .before .put-end2 .ensures))
 
 slice-aggregate-put-end-3 : tie.Need-slice-aggregate-put-end-3
 slice-aggregate-put-end-3 c = search needs
@@ -131,12 +144,7 @@ unfolding shown
 returns-3 c =
     let e = c .before .before .before .before in
     let i = e .before .before in
-    let p = i .before .before in
-    let s = start p in
-    let part = s .args .part .now in
-    let space = s .args .space in
-    let ends = ends-marked part space (s .pre .0 .text) ∙ ne-eqb (space + 1) (length part) (i .if2 .left) in
-    rw (i .before .if1 .left, printed-inner part space (p .add .result) (summed p) Us (rw ends) (e .add5 .ensures .1)) (added-more (text p) (inside s) (c .before .before .put-end3 .ensures))
+    rw (i .before .if1 .left) (going-on (i .before .before) false (ne-eqb _ _ (i .if2 .left)) (e .add5 .ensures .1) (c .before .before .put-end3 .ensures))
 
 pub put-part-spec : {M : Type 1} → statement M
 put-part-spec =
