@@ -82,7 +82,7 @@ static tyntolai_password side_password(const twin_password *p) {
 }
 
 static tyntolai_device_settings side_device(const twin_device_settings *s) {
-    return (tyntolai_device_settings){side_password(&s->password), s->retries};
+    return (tyntolai_device_settings){side_password(&s->password), s->retries, s->way};
 }
 
 static tyntolai_central_settings side_central(const twin_central_settings *s) {
@@ -268,6 +268,12 @@ static void make_transaction(uint8_t *t, size_t n) {
     t[n - 1] = CR;
 }
 
+// One of fields of 100 with their CR.
+static void make_fields(uint8_t *t, size_t n) {
+    make_transaction(t, n);
+    for (size_t i = 99; i < n; i += 100) t[i] = CR;
+}
+
 // One record more in a journal of this length; the new length.
 static size_t put_record(uint8_t *journal, size_t length, const uint8_t *info, size_t n) {
     size_t end = length - 4, records = (size_t)journal[end] * 256 + journal[end + 1] + 1, bytes = end + n + 2;
@@ -278,16 +284,19 @@ static size_t put_record(uint8_t *journal, size_t length, const uint8_t *info, s
     return bytes + 4;
 }
 
+// So many records of this transaction; the length.
+static size_t make_copies(uint8_t *journal, size_t records, const uint8_t *t, size_t n) {
+    size_t length = 4;
+    memset(journal, 0, BUFFER);
+    for (size_t i = 0; i < records; i++) length = put_record(journal, length, t, n);
+    return length;
+}
+
 // So many records of so many characters; the length.
 static size_t make_journal(uint8_t *journal, size_t records, size_t n) {
     uint8_t t[2000];
-    size_t length = 4;
-    memset(journal, 0, BUFFER);
-    for (size_t i = 0; i < records; i++) {
-        make_transaction(t, n);
-        length = put_record(journal, length, t, n);
-    }
-    return length;
+    make_transaction(t, n);
+    return make_copies(journal, records, t, n);
 }
 
 static void set_parity(uint8_t *p, size_t n) {
@@ -307,7 +316,8 @@ static size_t make_block(uint8_t *to, const uint8_t *info, size_t n, uint8_t end
     return n + 6;
 }
 
-static const twin_device_settings device = {{"SECRET", 6}, 2};
+static const twin_device_settings device = {{"SECRET", 6}, 2, TWIN_FILLED};
+static const twin_device_settings whole_device = {{"SECRET", 6}, 2, TWIN_WHOLE_FIELDS};
 static const twin_central_settings central = {{"SECRET", 6}, 2000, 2};
 static uint32_t pagers[1000];
 static uint8_t journal[BUFFER], job[BUFFER], verdicts[64];
@@ -342,8 +352,12 @@ static void measure_characters(void) {
     for (int i = 0; i < 2; i++) {
         size_t n = whole[i];
         make_transaction(text, n);
-        ANSWERED(TITLE("segmentation, %zu", n), SIDE(write_segments)(text, n, out, sizeof out), out, sizeof out);
+        ANSWERED(TITLE("segmentation, %zu", n), SIDE(write_segments)(TWIN_FILLED, text, n, out, sizeof out), out,
+                 sizeof out);
     }
+    make_fields(text, 2000);
+    ANSWERED("segmentation, 2000, whole fields",
+             SIDE(write_segments)(TWIN_WHOLE_FIELDS, text, 2000, out, sizeof out), out, sizeof out);
 }
 
 static const size_t sizes[][2] = {{0, 100}, {64, 20}, {16, 500}, {15, 1990}};
@@ -452,6 +466,17 @@ static void measure_device(const char *what, twin_device s, const char *text, si
                 n, 256);
 }
 
+// A step that sends the next block of whole fields.
+static void measure_whole_device(twin_device s, size_t records, size_t length) {
+    uint8_t t[2000], line[3] = {CR, 6, CR};
+    twin_given given;
+    make_fields(t, length);
+    size_t m = make_copies(job, records, t, length);
+    set_parity(line, 3);
+    device_step(TITLE("device step, ACK, next block, job %zu x %zu, whole fields", records, length), 0, &s, &given,
+                &whole_device, job, m, line, 3, 256);
+}
+
 static void measure_devices(void) {
     twin_device opening = {TWIN_OPENING, 0, 0, 1}, sending = {TWIN_SENDING, 0, 0, 1}, late = {TWIN_SENDING, 8, 7, 1};
     measure_device("ID=", opening, "ID=\r", 4, 1, 40);
@@ -461,17 +486,22 @@ static void measure_devices(void) {
     measure_device("ACK, next block", (twin_device){TWIN_SENDING, 8, 3, 1}, "\r\x06\r", 3, 16, 1998);
     measure_device("ACK, next transaction", late, "\r\x06\r", 3, 16, 1998);
     measure_device("NAK, again", late, "\r\x15\r", 3, 16, 1998);
+    measure_whole_device((twin_device){TWIN_SENDING, 0, 0, 1}, 1, 2000);
+    measure_whole_device((twin_device){TWIN_SENDING, 8, 3, 1}, 16, 1998);
+}
+
+static void measure_run(const char *what, const twin_device_settings *d, size_t records, size_t length) {
+    size_t m = make_journal(job, records, length);
+    memset(journal, 0, BUFFER);
+    memset(verdicts, 0, sizeof verdicts);
+    run(TITLE("run, job %zu x %zu, %s", records, length, what), job, m, d, &central, pagers + 999, 1, journal, BUFFER,
+        4, out, 0, verdicts, records);
 }
 
 static void measure_runs(void) {
     static const size_t jobs[][2] = {{1, 40}, {4, 40}, {16, 40}, {64, 40}, {1, 1998}, {4, 1998}, {16, 1998}};
-    for (int i = 0; i < 7; i++) {
-        size_t k = jobs[i][0], n = jobs[i][1], m = make_journal(job, k, n);
-        memset(journal, 0, BUFFER);
-        memset(verdicts, 0, sizeof verdicts);
-        run(TITLE("run, job %zu x %zu, clean", k, n), job, m, &device, &central, pagers + 999, 1, journal, BUFFER, 4,
-            out, 0, verdicts, k);
-    }
+    for (int i = 0; i < 7; i++) measure_run("clean", &device, jobs[i][0], jobs[i][1]);
+    measure_run("clean, whole fields", &whole_device, 16, 254); // two blocks each, of 4 and 250
 }
 
 // ---- random calls
@@ -569,8 +599,11 @@ static twin_password any_password(void) {
     return p;
 }
 
+// A way, or now and then a number that is none.
+static uint8_t any_way(void) { return (uint8_t)(rarely() ? below(4) : below(2)); }
+
 static twin_device_settings any_device_settings(void) {
-    return (twin_device_settings){any_password(), rarely() ? below(12) : below(4)};
+    return (twin_device_settings){any_password(), rarely() ? below(12) : below(4), any_way()};
 }
 
 static twin_central_settings any_central_settings(void) {
@@ -692,8 +725,10 @@ static void random_characters(size_t calls) {
     }
     summed("block read");
     for (size_t i = 0; i < calls; i++, seen[code]++) {
-        size_t n = any_transaction(text, 2000), room = n + 6 * ((n + 249) / 250);
-        ANSWERED(NULL, SIDE(write_segments)(text, n, out, any_room(room)), out, sizeof out);
+        size_t n = any_transaction(text, 2000);
+        uint8_t way = any_way();
+        size_t room = any_room(way == TWIN_FILLED ? n + 6 * ((n + 249) / 250) : 2090);
+        ANSWERED(NULL, SIDE(write_segments)(way, text, n, out, room), out, sizeof out);
     }
     summed("segmentation");
 }

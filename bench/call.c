@@ -19,7 +19,7 @@ int main(void) {
     static uint8_t job[TYNTOLAI_BUFFER], journal[TYNTOLAI_BUFFER]; // empty journals: four zeros
     static const uint8_t stored[14] = {0x31, 0x32, 0x33, 0x0D, 0x41, 0x42, 0x43, 0x0D, 0, 8, 0, 1, 0, 10};
     const uint32_t pagers[1] = {123};
-    const tyntolai_device_settings device_settings = {{"SECRET", 6}, 2};
+    const tyntolai_device_settings device_settings = {{"SECRET", 6}, 2, TYNTOLAI_FILLED};
     const tyntolai_central_settings central_settings = {{"SECRET", 6}, 2000, 2};
     uint8_t string[TYNTOLAI_STRING], block[TYNTOLAI_STRING], answer[TYNTOLAI_ANSWER], pending[TYNTOLAI_PENDING];
     uint8_t verdicts[2] = {TYNTOLAI_UNSENT, TYNTOLAI_UNSENT};
@@ -81,6 +81,21 @@ int main(void) {
         memcmp(again, journal, sizeof again) != 0 || memcmp(given, verdicts, sizeof given) != 0) {
         return wrong("the run");
     }
+
+    // With whole fields these pages take a block each too, and all goes the same. A number that is no way is refused.
+    static uint8_t whole[TYNTOLAI_BUFFER];
+    const tyntolai_device_settings whole_fields = {{"SECRET", 6}, 2, TYNTOLAI_WHOLE_FIELDS};
+    const tyntolai_device_settings no_way = {{"SECRET", 6}, 2, 2};
+    totals = tyntolai_run(job, length.count, whole_fields, central_settings, pagers, 1, whole, sizeof whole, 4, string,
+                          0, given, sizeof given);
+    if (totals.code != 0 || totals.transmissions != transmissions || memcmp(whole, journal, sizeof whole) != 0) {
+        return wrong("the run with whole fields");
+    }
+    totals = tyntolai_run(job, length.count, no_way, central_settings, pagers, 1, whole, sizeof whole, 4, string, 0,
+                          given, sizeof given);
+    if (totals.code != 9 || memcmp(whole, journal, sizeof whole) != 0) return wrong("the run in no way");
+    device = tyntolai_device_start(no_way, job, length.count, string, sizeof string);
+    if (device.answer.code != 9 || device.state.step != TYNTOLAI_STOPPED) return wrong("the start in no way");
     printf("%zu transmissions: as it should be\n", transmissions);
     return 0;
 }

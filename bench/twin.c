@@ -4,7 +4,7 @@
 enum { STX = 0x02, ETX = 0x03, EOT = 0x04, ACK = 0x06, LF = 0x0A, CR = 0x0D, NAK = 0x15, ETB = 0x17,
        ESC = 0x1B, RS = 0x1E, US = 0x1F };
 
-enum { INFORMATION = 250, OVERHEAD = 6, MOST = 2000, RECORDS = 64, BYTES = 32000 };
+enum { INFORMATION = 250, OVERHEAD = 6, ALL_BLOCKS = 2090, MOST = 2000, RECORDS = 64, BYTES = 32000 };
 
 static twin_answer done(size_t count) { return (twin_answer){count, 0}; }
 
@@ -140,23 +140,65 @@ static uint8_t check_transaction(const uint8_t *info, size_t n) {
     return 0;
 }
 
-static size_t block_count(size_t n) { return n / INFORMATION + (n % INFORMATION != 0); }
-
-// The block at an index of a transaction; its length.
-static size_t put_segment(const uint8_t *info, size_t n, size_t index, uint8_t *out) {
-    size_t from = INFORMATION * index, left = n - from;
-    size_t length = left < INFORMATION ? left : INFORMATION;
-    uint8_t ending = left <= INFORMATION ? ETX : info[from + length - 1] == CR ? ETB : US;
-    put_block(info + from, length, ending, out);
-    return length + OVERHEAD;
+// Every field has at most 250 characters with its CR, where fields are kept whole.
+static int cuttable(uint8_t way, const uint8_t *info, size_t n) {
+    size_t left = INFORMATION;
+    if (way == TWIN_FILLED) return 1;
+    for (size_t i = 0; i < n; i++) {
+        if (left == 0) return 0;
+        left = info[i] == CR ? INFORMATION : left - 1;
+    }
+    return 1;
 }
 
-twin_answer twin_write_segments(const uint8_t *info, size_t n, uint8_t *out, size_t room) {
-    size_t count = block_count(n), at = 0;
-    if (room < n + OVERHEAD * count) return refused(1);
+// How many characters the next block takes of what is left.
+static size_t next_length(uint8_t way, const uint8_t *rest, size_t left) {
+    size_t length = left < INFORMATION ? left : INFORMATION;
+    if (way == TWIN_WHOLE_FIELDS)
+        while (rest[length - 1] != CR) length--;
+    return length;
+}
+
+static size_t filled_count(size_t n) { return n / INFORMATION + (n % INFORMATION != 0); }
+
+static size_t block_count(uint8_t way, const uint8_t *info, size_t n) {
+    size_t count = 0;
+    if (way == TWIN_FILLED) return filled_count(n);
+    for (size_t from = 0; from < n; count++) from += next_length(way, info + from, n - from);
+    return count;
+}
+
+// The block at a place of a transaction; the length of its information.
+static size_t put_piece(uint8_t way, const uint8_t *info, size_t n, size_t from, uint8_t *out) {
+    size_t left = n - from, length = next_length(way, info + from, left);
+    uint8_t ending = length == left ? ETX : info[from + length - 1] == CR ? ETB : US;
+    put_block(info + from, length, ending, out);
+    return length;
+}
+
+// The block at an index of a transaction; its length.
+static size_t put_segment(uint8_t way, const uint8_t *info, size_t n, size_t index, uint8_t *out) {
+    size_t from = 0;
+    if (way == TWIN_FILLED) {
+        from = INFORMATION * index;
+    } else {
+        while (index-- > 0) from += next_length(way, info + from, n - from);
+    }
+    return put_piece(way, info, n, from, out) + OVERHEAD;
+}
+
+twin_answer twin_write_segments(uint8_t way, const uint8_t *info, size_t n, uint8_t *out, size_t room) {
+    size_t at = 0;
+    if (way > TWIN_WHOLE_FIELDS) return refused(9);
+    if (room < (way == TWIN_FILLED ? n + OVERHEAD * filled_count(n) : ALL_BLOCKS)) return refused(1);
     uint8_t wrong = check_transaction(info, n);
     if (wrong) return refused(wrong);
-    for (size_t i = 0; i < count; i++) at += put_segment(info, n, i, out + at);
+    if (!cuttable(way, info, n)) return refused(2);
+    for (size_t from = 0; from < n;) {
+        size_t length = put_piece(way, info, n, from, out + at);
+        from += length;
+        at += length + OVERHEAD;
+    }
     return done(at);
 }
 
@@ -347,7 +389,7 @@ static int password_in_range(const twin_password *p) {
 }
 
 static int device_in_range(const twin_device_settings *s) {
-    return password_in_range(&s->password) && s->retries <= 9;
+    return s->way <= TWIN_WHOLE_FIELDS && password_in_range(&s->password) && s->retries <= 9;
 }
 
 static int central_in_range(const twin_central_settings *s) {
@@ -501,7 +543,7 @@ static size_t put_string(const twin_device *s, const twin_device_settings *t, pa
         text[n++] = CR;
         break;
     case TWIN_SENDING:
-        n = put_segment(transaction.info, transaction.length, s->block, text);
+        n = put_segment(t->way, transaction.info, transaction.length, s->block, text);
         break;
     case TWIN_CLOSING:
         text[n++] = EOT;
@@ -512,9 +554,20 @@ static size_t put_string(const twin_device *s, const twin_device_settings *t, pa
     return n;
 }
 
-// The tests of a step; the number of transactions and where the state's and the next lie.
+// No field of a job, which is well formed, is too long for the way.
+static int cuts_all(uint8_t way, const uint8_t *job, size_t n) {
+    if (way == TWIN_FILLED) return 1;
+    for (size_t end = n - 4; end > 0;) {
+        size_t length = number_at(job + end - 2);
+        end -= length + 2;
+        if (!cuttable(way, job + end, length)) return 0;
+    }
+    return 1;
+}
+
+// The tests of a step; the number of transactions, where the state's and the next lie, and the state's blocks.
 static uint8_t test_device(const twin_device *s, const twin_device_settings *t, const uint8_t *job, size_t n,
-                           size_t room, size_t *count, part *here, part *next) {
+                           size_t room, size_t *count, size_t *blocks, part *here, part *next) {
     if (!device_in_range(t) || s->step > TWIN_CLOSING) return 9;
     if (s->step != TWIN_STOPPED) {
         size_t most = s->step == TWIN_OPENING ? 3 : t->retries + 1;
@@ -523,9 +576,12 @@ static uint8_t test_device(const twin_device *s, const twin_device_settings *t, 
     if (room < 256) return 1;
     int counted = walk(job, n, s->step == TWIN_SENDING ? s->transaction : 0, here, next);
     if (counted < 0) return 7;
+    if (!cuts_all(t->way, job, n)) return 2;
     *count = (size_t)counted;
+    *blocks = 0;
     if (s->step == TWIN_SENDING) {
-        if (s->transaction >= *count || s->block >= block_count(here->length)) return 9;
+        *blocks = block_count(t->way, here->info, here->length);
+        if (s->transaction >= *count || s->block >= *blocks) return 9;
     } else if (s->step != TWIN_STOPPED) {
         if (s->transaction != 0 || s->block != 0) return 9;
     }
@@ -624,10 +680,10 @@ static void move(twin_device *s, twin_given *given, size_t most, size_t count, s
 
 twin_answer twin_device_start(twin_device *state, const twin_device_settings *settings, const uint8_t *job,
                               size_t n, uint8_t *out, size_t room) {
-    size_t count;
+    size_t count, blocks;
     part here, next;
     wait_in(state, TWIN_STOPPED, 0, 0);
-    uint8_t wrong = test_device(state, settings, job, n, room, &count, &here, &next);
+    uint8_t wrong = test_device(state, settings, job, n, room, &count, &blocks, &here, &next);
     if (wrong) return refused(wrong);
     wait_in(state, TWIN_OPENING, 0, 0);
     return done(put_string(state, settings, here, out));
@@ -636,13 +692,13 @@ twin_answer twin_device_start(twin_device *state, const twin_device_settings *se
 twin_answer twin_device_step(twin_device *s, twin_given *given, const twin_device_settings *settings,
                              const uint8_t *job, size_t n, const uint8_t *reply, size_t reply_length,
                              uint8_t *out, size_t room) {
-    size_t count;
+    size_t count, blocks;
     part here, next;
     *given = (twin_given){0, 0, 0};
-    uint8_t wrong = test_device(s, settings, job, n, room, &count, &here, &next);
+    uint8_t wrong = test_device(s, settings, job, n, room, &count, &blocks, &here, &next);
     if (wrong) return refused(wrong);
     size_t before = s->step == TWIN_SENDING ? s->transaction : 0;
-    move(s, given, settings->retries + 1, count, block_count(here.length), twin_read_reply(reply, reply_length));
+    move(s, given, settings->retries + 1, count, blocks, twin_read_reply(reply, reply_length));
     size_t after = s->step == TWIN_SENDING ? s->transaction : 0;
     return done(put_string(s, settings, before == after ? here : next, out));
 }
@@ -674,6 +730,7 @@ twin_totals twin_run(const uint8_t *job, size_t n, const twin_device_settings *d
     if (counted.code) return (twin_totals){0, 0, counted.code};
     uint8_t wrong = check_in(journal, size, length);
     if (wrong) return (twin_totals){0, 0, wrong};
+    if (!cuts_all(device->way, job, n)) return (twin_totals){0, 0, 2};
     if (verdict_count != counted.count) return (twin_totals){0, 0, 1};
     memset(verdicts, 5, verdict_count);
     twin_central_start(&c, length);

@@ -18,9 +18,12 @@ typedef struct {
     size_t length;
 } twin_password;
 
+enum { TWIN_FILLED, TWIN_WHOLE_FIELDS };
+
 typedef struct {
     twin_password password;
     size_t retries;
+    uint8_t way;
 } twin_device_settings;
 
 typedef struct {
@@ -73,7 +76,7 @@ uint16_t twin_checksum_add(uint16_t sum, uint8_t character);
 twin_answer twin_check_characters(uint16_t sum, uint8_t *out, size_t room);
 twin_answer twin_write_block(const uint8_t *info, size_t n, uint8_t ending, uint8_t *out, size_t room);
 twin_answer twin_read_block(const uint8_t *text, size_t n);
-twin_answer twin_write_segments(const uint8_t *info, size_t n, uint8_t *out, size_t room);
+twin_answer twin_write_segments(uint8_t way, const uint8_t *info, size_t n, uint8_t *out, size_t room);
 twin_answer twin_check_journal(const uint8_t *journal, size_t n);
 twin_answer twin_append(uint8_t *buffer, size_t size, size_t length, const uint8_t *info, size_t n);
 uint8_t twin_read_reply(const uint8_t *bytes, size_t n);

@@ -21,6 +21,7 @@ extern "C" {
 
 enum {
     TYNTOLAI_STRING = 256,   // room for any string of the device
+    TYNTOLAI_BLOCKS = 2090,  // room for all blocks of any transaction
     TYNTOLAI_ANSWER = 7,     // room for any answer of the central
     TYNTOLAI_PENDING = 2000, // the central's unfinished information
     TYNTOLAI_BUFFER = 32004  // the size of a journal's buffer, exactly
@@ -65,8 +66,15 @@ tyntolai_answer tyntolai_write_block(const uint8_t *info, size_t info_length, ui
 // its ending behind it. Refusals 2, 3, 4, 5, 6.
 tyntolai_answer tyntolai_read_block(const uint8_t *text, size_t text_length);
 
-// All blocks of a transaction of 1 to 2,000 characters, one after the other. Refusals 1, 2, 3, 6.
-tyntolai_answer tyntolai_write_segments(const uint8_t *info, size_t info_length, uint8_t *out, size_t room);
+// How a transaction is cut into blocks: each block is filled to 250, or, for centrals that cannot join, takes
+// as many complete fields as fit. Whole fields need each field, with its CR, to have at most 250 characters.
+enum { TYNTOLAI_FILLED = 0, TYNTOLAI_WHOLE_FIELDS = 1 };
+
+// All blocks of a transaction of 1 to 2,000 characters, cut in one of these ways, one after the other. They
+// need room for the information and six bytes a block (filled), or TYNTOLAI_BLOCKS bytes (whole fields).
+// Refusals 9 (way), 1, 2, 3, 6, 2 (whole fields: a field too long).
+tyntolai_answer tyntolai_write_segments(uint8_t way, const uint8_t *info, size_t info_length, uint8_t *out,
+                                        size_t room);
 
 // ---- The journal; a job is one too. An empty one is four zeros.
 
@@ -169,10 +177,11 @@ tyntolai_central_stepped tyntolai_central_hang_up(tyntolai_central_state state, 
 
 // ---- The entry device
 
-// The retry limit is 0 to 9.
+// The retry limit is 0 to 9, the way of cutting TYNTOLAI_FILLED (0) or TYNTOLAI_WHOLE_FIELDS (1).
 typedef struct {
     tyntolai_password password;
     size_t retries;
+    uint8_t way;
 } tyntolai_device_settings;
 
 enum {
@@ -211,12 +220,12 @@ typedef struct {
 } tyntolai_device_stepped;
 
 // The start of a call for a job lent at its exact length: count bytes of the first string go to out
-// (TYNTOLAI_STRING or more). Refusals 9, 1, 7.
+// (TYNTOLAI_STRING or more). Refusals 9, 1, 7, 2 (whole fields: a field of the job too long).
 tyntolai_device_stepped tyntolai_device_start(tyntolai_device_settings settings, const uint8_t *job,
                                               size_t job_length, uint8_t *out, size_t room);
 
 // A reply as it came off the line, of no bytes where nothing came: count bytes of the next string go to
-// out, none once the device has stopped. Refusals 9, 1, 7, 9 (transaction and block).
+// out, none once the device has stopped. Refusals 9, 1, 7, 2 (as the start), 9 (transaction and block).
 tyntolai_device_stepped tyntolai_device_step(tyntolai_device_state state, tyntolai_device_settings settings,
                                              const uint8_t *job, size_t job_length, const uint8_t *reply,
                                              size_t reply_length, uint8_t *out, size_t room);
@@ -232,7 +241,7 @@ typedef struct {
 
 // Runs a job against the central. A fault for each transmission, 0 to 8: 3 times what becomes of the
 // string plus what becomes of its answer (0 whole, 1 garbled, 2 lost); past the list all is whole. One
-// byte of verdict for each transaction. Refusals 9, 1, 7, 1 (verdicts).
+// byte of verdict for each transaction. Refusals 9, 1, 7, 2 (as the device), 1 (verdicts).
 tyntolai_totals tyntolai_run(const uint8_t *job, size_t job_length, tyntolai_device_settings device,
                              tyntolai_central_settings central, const uint32_t *pagers, size_t pager_count,
                              uint8_t *journal, size_t size, size_t journal_length, const uint8_t *faults,

@@ -2,13 +2,13 @@
 """Writes crates/vectors/stdin and stdout: calls, and what documents 01 and 02 say comes of each; and the same of the lines that crates/blocks reads.
 
 The answers come from a model of document 01 that is written here in Python, from the paper and not from the Rattle sources, and from the
-numbers that the paper prints, which are asserted below, as demand 3 is of every run. Five parts are younger, and by people who knew the Rattle sources:
-the walk of a journal, single steps from saved states, that hanging up tests no pager list (a decision, which the model followed), and of document 02 the
-framer, which is written twice here, and sums that are added to. Of those it is a second writing and no second opinion. The program `vectors` makes the calls on the proved
-functions; the gate compares.
+numbers that the paper prints, which are asserted below, as demand 3 is of every run. Seven parts are younger, and by people who knew the Rattle sources:
+the walk of a journal, single steps from saved states, two decisions that the model followed (hanging up tests no pager list; the index of a block of whole fields is
+tested last), and of document 02 the framer and the cutting into whole fields, which are both written twice here, and sums that are added to. Of those it is a second
+writing and no second opinion. The program `vectors` makes the calls on the proved functions; the gate compares.
 
 A line of stdin is a call: a letter, then arguments with a space before each. Bytes are hex pairs; `*` and four hex digits behind a pair repeat it;
-no bytes are `-`. A number is bytes too, high first.
+no bytes are `-`. A number is bytes too, high first. A capital letter makes the call of the small one, and cuts into whole fields.
 """
 import functools, itertools, os, random, re, typing
 
@@ -140,7 +140,43 @@ def count_blocks(n):
     return -(-n // 250)
 
 
-def cut(info):
+def fields(info):
+    """The fields of a transaction, each with its CR."""
+    return [x + b"\r" for x in info[:-1].split(b"\r")]
+
+
+def too_long(info, whole):
+    """A field with its CR is over 250, where fields are to be kept whole (document 02, wish 3)."""
+    return whole and any(len(x) > 250 for x in fields(info))
+
+
+def pack(info):
+    """As many complete fields to a block as fit, of a transaction that has none too long."""
+    pieces = [b""]
+    for field in fields(info):
+        if len(pieces[-1]) + len(field) > 250:
+            pieces.append(b"")
+        pieces[-1] += field
+    return [(x, ETB) for x in pieces[:-1]] + [(pieces[-1], ETX)]
+
+
+@functools.cache
+def cut_whole(info):
+    """The same, and what the papers say of it: complete fields, none that would fit left to the next block, no US, 15 blocks and 2,090 bytes at most."""
+    out = pack(info)
+    pieces = [x for x, _ in out]
+    assert pieces == re.findall(rb"(?s).{0,249}\r", info)  # a second writing: the most characters up to 250 that end in CR
+    assert b"".join(pieces) == info and [y for x in pieces for y in fields(x)] == fields(info)
+    assert all(1 <= len(x) <= 250 for x in pieces) and all(len(x) + len(fields(y)[0]) > 250 for x, y in zip(pieces, pieces[1:]))
+    assert [e for _, e in out] == [ETB] * (len(out) - 1) + [ETX] and all(read(block(*x)) == x for x in out)
+    assert count_blocks(len(info)) <= len(out) <= 15 and sum(len(block(*x)) for x in out) == len(info) + 6 * len(out) <= 2090
+    assert reassemble([block(*x) for x in out]).endswith("%d whole %s" % (len(info), plain(info)))
+    return out
+
+
+def cut(info, whole=False):
+    if whole:
+        return cut_whole(info)
     out = []
     for i in range(count_blocks(len(info))):
         piece = info[250 * i:250 * i + 250]
@@ -149,11 +185,13 @@ def cut(info):
     return out
 
 
-def segments(info, room):
-    if room < len(info) + 6 * count_blocks(len(info)):
+def segments(info, room, whole=False):
+    if room < (2090 if whole else len(info) + 6 * count_blocks(len(info))):
         raise Refused(1)
     judge(info)
-    return b"".join(block(p, e) for p, e in cut(info))
+    if too_long(info, whole):
+        raise Refused(2)
+    return b"".join(block(p, e) for p, e in cut(info, whole))
 
 
 def segment(info, i, room):
@@ -163,6 +201,18 @@ def segment(info, i, room):
         raise Refused(1)
     judge(info)
     return block(*cut(info)[i])
+
+
+def whole_segment(info, i, room):
+    """The i-th block of whole fields: which there are is known only once the information is judged, so 9 comes last."""
+    if room < 256:
+        raise Refused(1)
+    judge(info)
+    if too_long(info, True):
+        raise Refused(2)
+    if i >= len(cut(info, True)):
+        raise Refused(9)
+    return block(*cut(info, True)[i])
 
 
 def reassemble(blocks):
@@ -223,13 +273,20 @@ def r(s):
     call("r", hexed(s), answer=a)
 
 
-def s(info, room=None):
-    room = len(info) + 6 * count_blocks(len(info)) if room is None else room
-    call("s", number(room), hexed(info), answer=lambda: "%d: %s" % (count_blocks(len(info)), wrote(segments(info, room))))
+def s(info, room=None, whole=False):
+    """All blocks, those of whole fields by their digest."""
+    least = 2090 if whole else len(info) + 6 * count_blocks(len(info))
+    room = least if room is None else room
+
+    def a():
+        blocks = segments(info, room, whole)
+        return "%d: %s" % (len(cut(info, whole)), digest(blocks) if whole else wrote(blocks))
+    call("S" if whole else "s", number(room), hexed(info), answer=a)
 
 
-def t(info, i, room=256):
-    call("t", number(room), number(i), hexed(info), answer=lambda: wrote(segment(info, i, room)))
+def t(info, i, room=256, whole=False):
+    """The i-th of them, likewise."""
+    call("T" if whole else "t", number(room), number(i), hexed(info), answer=lambda: digest(whole_segment(info, i, room)) if whole else wrote(segment(info, i, room)))
 
 
 def j(*blocks):
@@ -632,16 +689,18 @@ def central(rng):
 
 # ── the entry device ──
 class Device:
-    """The device's steps over replies off the line, from Opening."""
+    """The device's steps over replies off the line, from Opening; whole says that it cuts into whole fields."""
 
-    def __init__(self, password, retries, job):
+    def __init__(self, password, retries, job, whole=False):
         settings(password, retries)
-        self.password, self.retries, self.job = password, retries, decode(job)
+        self.password, self.retries, self.job, self.whole = password, retries, decode(job), whole
+        if any(too_long(t, whole) for t in self.job):
+            raise Refused(2)
         self.step, self.place, self.attempts = "opening", (0, 0), 1
 
     def string(self):
         if self.step == "sending":
-            text = block(*cut(self.job[self.place[0]])[self.place[1]])
+            text = block(*cut(self.job[self.place[0]], self.whole)[self.place[1]])
         else:
             text = {"opening": b"\r", "logon": b"\x1bPG1" + self.password + b"\r", "closing": b"\x04\r", "stopped": b""}[self.step]
         return bytes(map(with_parity, text))
@@ -679,7 +738,7 @@ class Device:
         elif self.step == "sending":
             t, b = self.place
             if said == "ack":
-                if b + 1 < count_blocks(len(self.job[t])):
+                if b + 1 < len(cut(self.job[t], self.whole)):
                     self.to("sending", (t, b + 1))
                 else:
                     self.onwards(t + 1)
@@ -695,8 +754,8 @@ class Device:
         return "-"
 
 
-def play(password, retries, job, lines):
-    device = Device(password, retries, job)
+def play(password, retries, job, lines, whole):
+    device = Device(password, retries, job, whole)
     out = [plain(device.string())]
     for line in lines:
         given = device.take(line)
@@ -704,10 +763,10 @@ def play(password, retries, job, lines):
     return ", ".join(out)
 
 
-def e(password, retries, job, *texts):
+def e(password, retries, job, *texts, whole=False):
     """Replies played to the device from its start; texts get parity, lines given as bytes in a list do not."""
     lines = [x[0] if isinstance(x, list) else bytes(map(with_parity, x)) for x in texts]
-    call("e", hexed(password), number(retries), hexed(job), *[hexed(x) for x in lines], answer=lambda: play(password, retries, job, lines))
+    call("E" if whole else "e", hexed(password), number(retries), hexed(job), *[hexed(x) for x in lines], answer=lambda: play(password, retries, job, lines, whole))
 
 
 def device(rng):
@@ -781,12 +840,12 @@ def device_in_range(step, attempts, retries):
     return step == "stopped" or 1 <= attempts <= (3 if step == "opening" else retries + 1)
 
 
-def exists(job, step, place):
+def exists(job, step, place, whole):
     t, b = place
-    return step == "stopped" or (t < len(job) and b < count_blocks(len(job[t])) if step == "sending" else place == (0, 0))
+    return step == "stopped" or (t < len(job) and b < len(cut(job[t], whole)) if step == "sending" else place == (0, 0))
 
 
-def replayed(password, retries, job, step, place, attempts, room, lines):
+def replayed(password, retries, job, step, place, attempts, room, lines, whole):
     """The start, what the device does with replies from a saved state on, and how state and output stand at the end."""
     out, said = FILLER * room, []
 
@@ -796,8 +855,8 @@ def replayed(password, retries, job, step, place, attempts, room, lines):
             raise Refused(9)
         if room < 256:
             raise Refused(1)
-        d = Device(password, retries, job)
-        if not exists(d.job, step, place):
+        d = Device(password, retries, job, whole)
+        if not exists(d.job, step, place, whole):
             raise Refused(9)
         d.step, d.place, d.attempts = step, place, attempts
         return d
@@ -806,7 +865,7 @@ def replayed(password, retries, job, step, place, attempts, room, lines):
         settings(password, retries)
         if room < 256:
             raise Refused(1)
-        string = Device(password, retries, job).string()
+        string = Device(password, retries, job, whole).string()
         out = laid(string, out)
         said.append(plain(string))
     except Refused as r:
@@ -823,12 +882,12 @@ def replayed(password, retries, job, step, place, attempts, room, lines):
     return "%s, %s %s" % (", ".join(said), step if step == "stopped" else "%s %d %d %d" % (step, *place, attempts), digest(out))
 
 
-def g(*texts, password=b"", retries=1, job, step="sending", place=(0, 0), attempts=1, room=256):
+def g(*texts, password=b"", retries=1, job, step="sending", place=(0, 0), attempts=1, room=256, whole=False):
     """Steps of the entry device from a saved state; room is the output's size."""
     lines = [x[0] if isinstance(x, list) else bytes(map(with_parity, x)) for x in texts]
     assert room <= 512  # what the program has room for
-    call("g", hexed(password), number(retries), hexed(job), "x" if step == "stopped" else step[0], number(place[0]), number(place[1]), number(attempts), number(room),
-         *[hexed(x) for x in lines], answer=lambda: replayed(password, retries, job, step, place, attempts, room, lines))
+    call("G" if whole else "g", hexed(password), number(retries), hexed(job), "x" if step == "stopped" else step[0], number(place[0]), number(place[1]), number(attempts), number(room),
+         *[hexed(x) for x in lines], answer=lambda: replayed(password, retries, job, step, place, attempts, room, lines, whole))
 
 
 def central_steps(rng):
@@ -916,7 +975,7 @@ def device_steps(rng):
 # ── the run ──
 class Run(typing.NamedTuple):
     """What a run takes: the job, the faults, the device's settings, the central's, how the journal's buffer begins and its size, the journal's length in
-    it, and the size of the verdict buffer."""
+    it, the size of the verdict buffer, and whether the device cuts into whole fields."""
     job: bytes
     faults: tuple
     password: bytes
@@ -926,6 +985,7 @@ class Run(typing.NamedTuple):
     size: int
     length: int
     room: int
+    whole: bool = False
 
     def buffer(self):
         return self.begin[:self.size].ljust(self.size, b"\0")
@@ -949,10 +1009,11 @@ def run(r):
         raise Refused(9)
     if r.size != 32004:
         raise Refused(1)
-    device = Device(r.password, r.retries, r.job)
+    decode(r.job)
     if r.length > r.size:
         raise Refused(7)
     decode(central.journal)
+    device = Device(r.password, r.retries, r.job, r.whole)
     if r.room != len(device.job):
         raise Refused(1)
     verdicts, sent = [5] * r.room, 0
@@ -986,7 +1047,7 @@ def demand(r, sent, verdicts, journal):
     k = sum(v in (1, 2) for v in verdicts)
     assert verdicts[:k] == told[:k] and all(v in (3, 4, 5) for v in verdicts[k:k + 1]) and all(v == 5 for v in verdicts[k + 1:])
     assert journal == journals[k] or verdicts[k:k + 1] == [3] and journal == journals[k + 1]
-    assert sent <= 3 + (r.retries + 1) * (sum(count_blocks(len(t)) for t in job) + 2)
+    assert sent <= 3 + (r.retries + 1) * (sum(len(cut(t, r.whole)) for t in job) + 2)
     # a clean run of the first transactions
     for n in range(len(job) + 1):
         assert run(r._replace(job=encode(job[:n]), faults=(), room=n))[1:] == (told[:n], journals[n])
@@ -997,13 +1058,13 @@ def demand(r, sent, verdicts, journal):
         assert run(higher)[1][:k] == verdicts[:k]
 
 
-def u(job, faults=(), password=b"", retries=3, host=b"", longest=2000, limit=3, pagers=(123,), begin=encode([]), size=32004, length=None, room=None):
+def u(job, faults=(), password=b"", retries=3, host=b"", longest=2000, limit=3, pagers=(123,), begin=encode([]), size=32004, length=None, room=None, whole=False):
     """A run, its job given as transactions or as bytes; host and limit are the central's password and retry limit. The verdicts and the journal at its
     end, or None where it is refused."""
     assert len(faults) <= 64 and len(pagers) <= 8  # what the program has room for
     length, room = len(begin) if length is None else length, len(job) if room is None else room
     job = job if isinstance(job, bytes) else encode(job)
-    r = Run(job, tuple(faults), password, retries, (host, longest, limit, pagers), begin, size, length, room)
+    r = Run(job, tuple(faults), password, retries, (host, longest, limit, pagers), begin, size, length, room, whole)
     try:
         sent, verdicts, journal = run(r)
     except Refused as refusal:
@@ -1012,7 +1073,7 @@ def u(job, faults=(), password=b"", retries=3, host=b"", longest=2000, limit=3, 
         demand(r, sent, verdicts, journal)
         said, result = "%d %d" % (sent, len(journal)), (verdicts, journal)
     numbers = b"".join(x.to_bytes(4, "big") for x in pagers)
-    call("u", hexed(host), number(longest), number(limit), hexed(numbers), hexed(begin), hexed(password), number(retries), number(size), number(length),
+    call("U" if whole else "u", hexed(host), number(longest), number(limit), hexed(numbers), hexed(begin), hexed(password), number(retries), number(size), number(length),
          number(room), hexed(bytes(faults)), hexed(job), answer=lambda: "%s %s %s" % (said, plain(verdicts), digest(journal + r.buffer()[len(journal):])))
     return result
 
@@ -1274,6 +1335,143 @@ def sums(rng):
         b(start), b(start, b""), b(start, b"", b"~")
 
 
+# ── whole fields ──
+def sized(*lengths):
+    """A transaction whose fields have so many characters with their CRs, those of a field alike."""
+    return b"".join(bytes([0x41 + i % 26]) * (n - 1) + b"\r" for i, n in enumerate(lengths))
+
+
+# one block, its limit, and one more; neighbours that fit and that do not; one field of 250 among many short ones; 8, 14 and 15 blocks
+SHORT = [(1,), (250,), (1, 249), (2, 249), (249, 2), (1, 250), (250, 1), (1, 250, 1), (125, 125), (125, 126), (100, 100, 50), (100, 100, 51)]
+LONG = [(249,), (249, 1), (250, 250), (249, 250), (125, 125, 1), (126, 125, 125), (83, 84, 83, 1), (1,) * 250, (1,) * 251, (1,) * 2000, (2,) * 125, (2,) * 126, (2,) * 1000, (3,) * 84,
+        (250,) + (1,) * 1750, (1,) * 1750 + (250,), (1,) * 875 + (250,) + (1,) * 875, (2,) * 100 + (250,) + (3,) * 90, (7,) * 40 + (250,) + (9,) * 60, (250,) * 8, (125,) * 16,
+        (250,) * 7 + (249, 1), (250, 1) * 7 + (243,), (1, 250) * 6 + (245, 249), (1, 250) * 7 + (1,), (1, 250) * 7 + (243,), (125, 126) * 7 + (125,), (125, 126) * 7 + (243,), (126,) * 15 + (110,)]
+FIFTEEN = sized(*(1, 250) * 7, 243)
+# a field too long: alone, first, last and in between
+OVER = [(251,), (2000,), (251, 1), (1, 251), (249, 251), (250, 251), (251, 250), (100, 251, 100), (1,) * 1749 + (251,), (2,) * 400 + (252,) + (2,) * 400, (1, 1999), (1999, 1)]
+WRONG = [b"", b"A", b"\x80\r", b"\x1f\r", b"A\n\r", b"\r" * 2001, b"\x80" * 2001, sized(2001), sized(1750, 251), b"A" * 251, b"A" * 250 + b"\x80\r", b"A" * 251 + b"\r\x1f\r", b"\x7f\r" + b"A" * 251 + b"\r",
+         b"A" * 251 + b"\r" + b"\x1f\x80\r", b"A" * 260 + b"\rA"]
+
+
+def some_fields(rng, most):
+    """Fields, short, middling or long, of at most so many characters in all."""
+    least, longest = rng.choice(((1, 3), (1, 40), (1, 130), (100, 150), (1, 250), (120, 131), (200, 250)))
+    out = [rng.choice((rng.randint(least, longest), rng.choice((1, 2, 125, 126, 249, 250)))) for _ in range(rng.choice((1, 2, 3, 8, 20, 200)))]
+    while sum(out) > most:
+        out.pop()
+    return out or [1]
+
+
+def cuttings(rng):
+    assert [len(cut(sized(*x), True)) for x in ((250,) * 8, (1, 250) * 7 + (1,), (1, 250) * 7 + (243,), (125, 126) * 7 + (243,))] == [8, 15, 15, 15]
+    assert len(FIFTEEN) == 2000 and len(segments(FIFTEEN, 2090, True)) == 2090 and cut(sized(2, 249), True) == [(b"A\r", ETB), (b"B" * 248 + b"\r", ETX)]
+    for lengths in SHORT + LONG:
+        info = sized(*lengths)
+        n = len(cut(info, True))
+        s(info, whole=True)
+        for i in sorted({0, 1, n - 2, n - 1, n, 65535} - {-1}):
+            t(info, i, whole=True)
+    # the same in the other way; and joined again
+    for lengths in SHORT:
+        s(sized(*lengths)), t(sized(*lengths), 1)
+    for info in (sized(2, 249), sized(1, 250, 1), sized(100, 100, 51), FIFTEEN):
+        j(*[block(*x) for x in cut(info, True)])
+    # refusals, several at once; outputs
+    for lengths in OVER:
+        info = sized(*lengths)
+        s(info, whole=True), t(info, 0, whole=True), t(info, 65535, whole=True)
+    for info in [sized(1), FIFTEEN, sized(251), sized(1, 251, 1)] + WRONG:
+        for room in (0, 2089, 2090, 2091):
+            s(info, room, whole=True)
+        for room, i in itertools.product((0, 255, 256, 257), (0, 15)):
+            t(info, i, room, whole=True)
+    # all kinds
+    for i in range(200):
+        info = sized(*some_fields(rng, rng.choice((300, 1000, 2000))))
+        if i % 5 == 0:
+            info = bytes(rng.choice(b"\rAB ~") for _ in range(rng.choice((30, 249, 250, 251, 400)))) + b"\r"
+        s(info, whole=True), t(info, rng.randrange(len(cut(info, True)) + 1), whole=True)
+
+
+def whole_devices(rng):
+    says = (b"ID=\r", b"\r\x06\r\x1b[p\r", b"\r\x06\r", b"\r\x15\r", b"\r\x1e\r", b"\r\x1b\x04\r", b"", [b"\x8d\x86\x8d"])
+    up, ack = (b"ID=\r", b"\r\x06\r\x1b[p\r"), b"\r\x06\r"
+    pages = [b"123\rABC\r", sized(1, 250, 1), sized(126, 126, 126)]
+    job, over = encode(pages), encode(pages + [sized(2, 251)])
+    assert [len(cut(x)) for x in pages] == [1, 2, 2] and [len(cut(x, True)) for x in pages] == [1, 3, 3]
+    # from the start: each reply at each block of a page, all of a job, and the job in the other way
+    for x in says:
+        e(b"", 1, encode([sized(1, 250, 1)]), *up, x, ack, x, whole=True)
+    e(b"q7", 0, job, *up, *[ack] * 8, whole=True), e(b"q7", 0, job, *up, *[ack] * 8), e(b"", 2, job, *up, b"\r\x1e\r", ack, b"\r\x1e\r", b"\r\x1e\r", b"\r\x15\r", whole=True)
+    # every place; a block that is there in one way alone
+    for place, whole in itertools.product(itertools.product((0, 1, 2, 3), (0, 1, 2, 3)), (True, False)):
+        g(ack, job=job, place=place, whole=whole)
+    for place, said in itertools.product(((1, 0), (1, 2), (2, 2)), (b"\r\x15\r", b"\r\x1e\r", b"\r\x1b\x04\r", b"", b"ID=\r")):
+        g(said, job=job, place=place, whole=True)
+    # a field too long, wherever it stands and whatever the step; the same in the other way
+    for step in ("opening", "logon", "sending", "closing", "stopped"):
+        g(ack, job=over, step=step, whole=True), g(ack, job=over, step=step), g(ack, job=over, step=step, place=(9, 9), whole=True), g(ack, job=over[1:], step=step, whole=True)
+    for page in [sized(*x) for x in OVER]:
+        for some in ([page], [page, b"\r"], [b"\r", page], [b"\r", page, b"\r"]):
+            g(ack, job=encode(some), whole=True)
+        e(b"", 0, encode([b"\r", page]), b"ID=\r", whole=True)
+    for place, whole in itertools.product(((1, 0), (1, 1), (1, 2)), (True, False)):
+        g(ack, job=encode([b"\r", sized(251)]), place=place, whole=whole)
+    # the largest jobs
+    for some, place in (([], (0, 0)), ([b"\r"] * 64, (63, 0)), ([b"\r"] * 63 + [sized(251)], (62, 0)), ([sized(251)] + [b"\r"] * 63, (62, 0)), ([FIFTEEN] * 15, (14, 14)), ([FIFTEEN] * 15, (14, 15))):
+        g(ack, job=encode(some), place=place, whole=True)
+    # several wrongs at once
+    for retries, attempts, room, bad, place in itertools.product((1, 10), (1, 0), (256, 255), (encode([b"\r"]), over, over[:-1]), ((0, 0), (0, 1))):
+        g(ack, job=bad, retries=retries, attempts=attempts, room=room, place=place, whole=True)
+    # all kinds
+    for _ in range(40):
+        some = [sized(*some_fields(rng, rng.choice((30, 130, 400)))) for _ in range(rng.randint(1, 4))]
+        i = rng.randrange(len(some))
+        g(rng.choice(says[2:5]), job=encode(some), place=(i, max(0, len(cut(some[i], True)) - rng.randint(0, 2))), whole=True)
+
+
+def both(job, faults=(), **more):
+    """A run in each way, which on a clean line come to the same."""
+    one, other = u(job, faults, **more), u(job, faults, **more, whole=True)
+    assert one == other or other is None or any(faults)
+
+
+def some_whole_page(rng):
+    """A transaction: mostly one that the content rules take, many in two blocks of whole fields, few with a field too long."""
+    first = rng.choice((b"123",) * 8 + (b"7", b"0000123", b"124", b"", b"9" * 249))
+    rest = rng.choice(((0,), (3,), (244,), (245,), (246,), (247,), (248,), (249,)) * 6 + ((), (1, 1), (249, 249), (246, 1, 249), (250,), (1, 300)))
+    return first + b"\r" + b"".join(bytes([rng.choice(b"A~ 1")]) * n + b"\r" for n in rest)
+
+
+def whole_runs(rng):
+    job = [b"123\r" + b"A" * 249 + b"\r", b"9\rX\r", b"123\rABC\r"]
+    assert [len(cut(x, True)) for x in job] == [2, 1, 1] and [e for _, e in cut(job[0])] == [US, ETX]
+    assert run(Run(encode(job), (), b"", 0, (b"", 2000, 0, (123,)), encode([]), 32004, 4, 3, True)) == (7, [1, 2, 1], encode([job[0], job[2]]))
+    # each fault at each transmission, and the same one again and again
+    for n, fault in itertools.product(range(8), range(1, 9)):
+        u(job, (0,) * n + (fault,), retries=1, limit=1, whole=True)
+    for n, times in itertools.product(range(7), (9, 10)):
+        both(job, (0,) * n + (3,) * times, retries=9, limit=9)
+    # many blocks; transactions at and over the longest that the central takes
+    both([FIFTEEN] * 4), both(job[:1] * 20)
+    for some in ([], [FIFTEEN], [sized(*(1, 250) * 7, 1), job[0]], [b"123\r" + b"A" * 245 + b"\r", b"123\r" + b"A" * 246 + b"\r"], [b"9" * 249 + b"\rX\r"]):
+        both(some), both(some, (0,) * 9 + (3, 0, 3), longest=1000), both(some, longest=250), both(some, longest=253), both(some, longest=254, begin=encode([b"\r"]))
+    # refusals, several at once
+    good, over = encode(job), encode(job + [sized(4, 251)])
+    for fault, size, length, (bad, n), room in itertools.product((8, 9), (32004, 32003), (4, 5), ((good, 3), (over, 4), (over[:-1], 4)), (0, 1)):
+        u(bad, (fault,), size=size, length=length, room=n + room, whole=True)
+    for wrong in ({"password": b"a b"}, {"retries": 10}, {"host": b"abcdefg"}, {"longest": 2}, {"limit": 10}, {"pagers": (10 ** 8,)}, {"faults": (255,)}, {"size": 0}, {"length": 3},
+                  {"length": 32005}, {"begin": good[1:]}, {"room": 0}, {"room": 3}, {"room": 4}, {"host": b"a"}):
+        both(**{"job": over, "room": 4, **wrong}), u(**{"job": good, "room": 3, **wrong}, whole=True)
+    for lengths in OVER:
+        u([b"123\r\r", sized(*lengths)], whole=True), u([sized(*lengths), b"123\r\r"], room=1, whole=True)
+    # all kinds
+    for i in range(80):
+        password, host = rng.choice(((b"", b""), (b"abc123", b"abc123")) if i % 10 else ((b"", b"a"), (b"Z", b"z")))
+        both([some_whole_page(rng) for _ in range(rng.randint(1, 4))], some_faults(rng), password=password, retries=rng.randint(0, 3), host=host, longest=rng.choice((2000, 2000, 254, 252)),
+             limit=rng.randint(0, 3), pagers=(123, 7), begin=rng.choice((encode([]), encode([b"7\r\r"]), encode([b"\r"] * 62))))
+
+
 def main():
     rng = random.Random(1861)
     codec(rng)
@@ -1288,6 +1486,9 @@ def main():
     walks()
     framing(rng)
     sums(rng)
+    cuttings(rng)
+    whole_devices(rng)
+    whole_runs(rng)
     crates = os.path.join(os.path.dirname(os.path.abspath(__file__)), "..", "crates")
     vectors = ["\n".join(rows + [""]).encode() for rows in (calls, answers)]
     for crate, files in (("vectors", vectors), ("blocks", program)):

@@ -1,5 +1,5 @@
 -- What the steps owe, in numbers: a step that is done gives its own record, one that is refused leaves the caller's.
-use mathlib.Core.Bool.{false}
+use mathlib.Core.Bool.{false, false≢true}
 use mathlib.Core.List.{List}
 use mathlib.Core.Path.{_≡_, refl, ap, _∙_}
 use Prim.Native.Nat.{ℕ, _<_}
@@ -98,6 +98,13 @@ pub runs : {o : Outcome Played} {t : Ran} {r : RunTotals} {buffer buffer′ verd
     Runs o t buffer buffer′ verdicts verdicts′ → r ≡ totalsIn (ranAs t) → CallRuns o r buffer buffer′ verdicts verdicts′
 runs k e =
     record { answers = e ∙ ap totalsIn (k .answers); stored = k .stored; judged = k .judged; fair = k .fair; demand = k .demand }
+
+-- and a refusal leaves all
+pub run-refused : {n : ℕ} {r : RunTotals} (buffer verdicts : List ℕ) → r ≡ totalsIn (refused n) → CallRuns (refused n) r buffer buffer verdicts verdicts
+unfolding storedIn
+run-refused {n} buffer verdicts e =
+    let none : (p : Played) → refused n ≡ done p → ⊥ = λ p h. false≢true (cc h) in
+    record { answers = e; stored = refl; judged = overlay-none verdicts; fair = λ p h. absurd (none p h); demand = λ p h. absurd (none p h) }
 
 -- the numbers of replies are small
 pub reply-small : (r : Reply) → replyNumber r < 7

@@ -18,7 +18,7 @@ use Rattle.device.specs.declared.state.Step.the-variants.{Opening, Logon, Sendi
 use Rattle.device.specs.declared.state.Stepped.{Stepped}
 use Rattle.abi.specs.Answer.{answerOf}
 use Rattle.abi.specs.Replies.{replyNumber}
-use Rattle.abi.specs.Settings.{deviceSettingsOf}
+use Rattle.abi.specs.Settings.{deviceSettingsOf, ofWay}
 use Rattle.abi.specs.declared.devices.DeviceSettings.{DeviceSettings}
 use Rattle.abi.specs.declared.devices.DeviceState.{DeviceState}
 use Rattle.abi.specs.declared.devices.DeviceStepped.{DeviceStepped}
@@ -73,11 +73,11 @@ reportNumber Reporting.Nothing = 0
 
 -- ── Steps ──
 
--- a step of the state that a record is: 9 where it has no step
+-- a step of the state that a record is: 9 where it has no step, or the settings no way
 unfoldable pub deviceStepped : DeviceState → DeviceSettings → List ℕ → List ℕ → ℕ → Outcome Device.Sent
 deviceStepped s settings job reply room =
     if ltb 4 (s .step) then refused 9
-    else Device.stepped (record { step = stepOf s }) (deviceSettingsOf settings) job reply room
+    else ofWay (settings .way) (Device.stepped (record { step = stepOf s }) (deviceSettingsOf settings) job reply room)
 
 -- a refusal by number, which leaves the record and gives nothing
 abbrev pub refusing : DeviceState → ℕ → DeviceStepped

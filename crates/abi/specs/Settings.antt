@@ -1,7 +1,13 @@
--- Settings as C lays them out.
+-- Settings as C lays them out, and the way of cutting as C numbers it.
+use Prim.Native.Nat.{ℕ}
+use lib.Dec.{eqb, ltb}
+use Rattle.line.specs.Answer.{Outcome, refused}
+use Rattle.line.specs.Test.{if_then_else_}
 use Rattle.line.specs.declared.password.Password as Line
 use Rattle.central.specs.declared.state.Settings as Central
 use Rattle.device.specs.declared.state.Settings as Device
+use Rattle.segmentation.specs.declared.way.Way.{Way}
+use Rattle.segmentation.specs.declared.way.Way.the-variants.{Filled, WholeFields}
 use Rattle.abi.specs.declared.centrals.CentralSettings.{CentralSettings}
 use Rattle.abi.specs.declared.devices.DeviceSettings.{DeviceSettings}
 use Rattle.abi.specs.declared.password.Password.{Password}
@@ -14,6 +20,14 @@ passwordOf p = record { characters = p .characters; length = p .length }
 abbrev pub centralSettingsOf : CentralSettings → Central.Settings
 centralSettingsOf s = record { password = passwordOf (s .password); longest = s .longest; retries = s .retries }
 
+-- the way of a number that is one (R-13.1)
+abbrev pub wayOf : ℕ → Way
+wayOf n = if eqb n 0 then Filled else WholeFields
+
+-- what is done in the way of a number: 9 where it is none (R-13.1)
+unfoldable pub ofWay : {A : Type 0} → ℕ → Outcome A → Outcome A
+ofWay n whole = if ltb 1 n then refused 9 else whole
+
 -- the device's settings that a record is
 abbrev pub deviceSettingsOf : DeviceSettings → Device.Settings
-deviceSettingsOf s = record { password = passwordOf (s .password); retries = s .retries }
+deviceSettingsOf s = record { password = passwordOf (s .password); retries = s .retries; way = wayOf (s .way) }

@@ -5,6 +5,8 @@ use crate::answer::of_written;
 use crate::password::Password;
 use crate::password::password_of;
 use crate::replies::reply_number;
+use crate::way::WAYS;
+use crate::way::way_of;
 use device::Given;
 use device::Place;
 use device::Report;
@@ -23,12 +25,14 @@ ghost use Rattle.line.specs.Answer.{refusalNumber, writtenAs};
 ghost use Rattle.device.specs.Step.{started};
 ghost use Rattle.abi.specs.Devices.{DeviceSteps, deviceStepped, filled, packed, recordOf, refusing};
 ghost use Rattle.abi.specs.Devices.{reportNumber, stepOf, stopped, transactionIn, verdictIn};
-ghost use Rattle.abi.specs.Settings.{deviceSettingsOf};
+ghost use Rattle.abi.specs.Settings.{deviceSettingsOf, ofWay};
 
+// The way of cutting by its number: 0 filled, 1 whole fields.
 #[repr(C)]
 pub struct DeviceSettings {
     pub password: Password,
     pub retries: usize,
+    pub way: u8,
 }
 
 // The step by its number: 0 Stopped, 1 Opening, 2 Logon, 3 Sending, 4 Closing; and its particulars,
@@ -63,13 +67,15 @@ pub extern "C" fn tyntolai_device_start(
     out: &mut [u8],
 ) -> DeviceStepped
     ensures { λ r. ⌜
-        DeviceSteps (started (deviceSettingsOf settings) (now (job .entry)) (length (now (out .entry))))
+        DeviceSteps
+        (ofWay (settings .way) (started (deviceSettingsOf settings) (now (job .entry)) (length (now (out .entry)))))
         stopped r (now (out .entry)) (now (out .exit)) ⌝ }
 {
-    pack(
-        record_of(Step::Stopped),
-        start(settings_of(settings), job, out),
-    )
+    let stopped = record_of(Step::Stopped);
+    if WAYS < settings.way {
+        return refuse(stopped, Refusal::Range);
+    }
+    pack(stopped, start(settings_of(settings), job, out))
 }
 
 // What the device does with a reply as it came off the line.
@@ -87,6 +93,9 @@ pub extern "C" fn tyntolai_device_step(
         state r (now (out .entry)) (now (out .exit)) ⌝ }
 {
     if STEPS < state.step {
+        return refuse(state, Refusal::Range);
+    }
+    if WAYS < settings.way {
         return refuse(state, Refusal::Range);
     }
     let step_now = step_of(state);
@@ -140,6 +149,7 @@ pub(crate) fn settings_of(settings: DeviceSettings) -> Settings
     Settings {
         password: password_of(password),
         retries: settings.retries,
+        way: way_of(settings.way),
     }
 }
 

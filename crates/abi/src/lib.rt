@@ -9,3 +9,4 @@ pub mod password;
 pub mod replies;
 pub mod run;
 pub mod text;
+pub mod way;

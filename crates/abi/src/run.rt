@@ -3,13 +3,16 @@ use crate::centrals::CentralSettings;
 use crate::centrals::settings_of as central_settings;
 use crate::devices::DeviceSettings;
 use crate::devices::settings_of as device_settings;
+use crate::way::WAYS;
 use call::Ran;
 use call::run::run;
+use line::Refusal;
 use line::answer::number;
 ghost use mathlib.Core.Path.{_≡_};
 ghost use lib.ListN as ListN;
 ghost use Rattle.call.specs.Call.{called, ranAs};
 ghost use Rattle.abi.specs.Run.{CallRuns, setupOf, totalsIn};
+ghost use Rattle.abi.specs.Settings.{ofWay};
 
 // The strings that the device put out, the journal's new length, and document 01's number.
 #[repr(C)]
@@ -33,12 +36,16 @@ pub extern "C" fn tyntolai_run(
 ) -> RunTotals
     ensures { λ r. ⌜
         CallRuns
+        (ofWay (device .way)
         (called (setupOf device central (now (pagers .entry)) (now (job .entry)))
-        (now (journal .entry)) length (now (faults .entry)) (ListN.length (now (verdicts .entry))))
+        (now (journal .entry)) length (now (faults .entry)) (ListN.length (now (verdicts .entry)))))
         r
         (now (journal .entry)) (now (journal .exit))
         (now (verdicts .entry)) (now (verdicts .exit)) ⌝ }
 {
+    if WAYS < device.way {
+        return pack_totals(Ran::Refused(Refusal::Range));
+    }
     pack_totals(run(
         job,
         device_settings(device),

@@ -2,6 +2,8 @@
 use crate::answer::Answer;
 use crate::answer::of_refusal;
 use crate::answer::of_written;
+use crate::way::WAYS;
+use crate::way::way_of;
 use block::Ending;
 use block::Reading;
 use block::checksum::add;
@@ -26,6 +28,7 @@ ghost use Rattle.block.specs.Block.{readBlock};
 ghost use Rattle.block.specs.Checksum as Checksum;
 ghost use Rattle.segmentation.specs.Segmentation.{writeSegments};
 ghost use Rattle.abi.specs.Answer.{Puts, answerOf};
+ghost use Rattle.abi.specs.Settings.{ofWay, wayOf};
 ghost use Rattle.abi.specs.Text.{writeEnded};
 
 // Characters to the line, with even parity.
@@ -109,12 +112,15 @@ pub extern "C" fn tyntolai_read_block(text: &[u8]) -> Answer
     }
 }
 
-// All blocks of a transaction, one after the other.
+// All blocks of a transaction, cut in the way of this number, one after the other.
 #[no_mangle]
-pub extern "C" fn tyntolai_write_segments(info: &[u8], out: &mut [u8]) -> Answer
+pub extern "C" fn tyntolai_write_segments(way: u8, info: &[u8], out: &mut [u8]) -> Answer
     ensures { λ r. ⌜
-        Puts (writeSegments (now (info .entry)) (length (now (out .entry))))
+        Puts (ofWay way (writeSegments (wayOf way) (now (info .entry)) (length (now (out .entry)))))
         r (now (out .entry)) (now (out .exit)) ⌝ }
 {
-    of_written(write_segments(info, out))
+    if WAYS < way {
+        return of_refusal(Refusal::Range);
+    }
+    of_written(write_segments(way_of(way), info, out))
 }

@@ -34,7 +34,7 @@ sound-ranged {s} sound =
 -- the device's start is not refused
 pub started-done : {s : Setup} → Sound s → (room : ℕ) → 256 ≤ room → DeviceStep.started (s .device) (s .job) room ≡ done (opening s)
 unfolding DeviceStep.started DeviceStep.tested
-started-done sound room h = rw (sound-ranged sound .0, le-ltb room 256 h, sound .read)
+started-done sound room h = rw (sound-ranged sound .0, le-ltb room 256 h, sound .read, sound .cut)
 
 -- what a driver keeps before the first transmission is the start of a run
 pub starts : (s : Setup) (array buffer : List ℕ) (n : ℕ) (journal : Transactions) → decodeIn buffer n ≡ done journal → Holds s (start (inputsFrom s journal)) (starting s array buffer n)
@@ -73,7 +73,7 @@ module _ {s : Setup} (sound : Sound s) (first : Transactions) (d : Transit) {e :
   -- neither is the device's
   pub device-done : (room : ℕ) → 256 ≤ room → deviceSteps s d k reaction room ≡ done sending
   unfolding DeviceStep.stepped DeviceStep.tested follows
-  device-done room h = rw (holds .step, sound-ranged sound .0, holds .ranged, le-ltb room 256 h, sound .read, holds .there)
+  device-done room h = rw (holds .step, sound-ranged sound .0, holds .ranged, le-ltb room 256 h, sound .read, sound .cut, holds .there)
 
   -- the central's reaction is the run's
   reacted : (room : ℕ) {x : Reaction Transactions} → centralSteps s d k room ≡ done x → x ≡ reaction

@@ -7,12 +7,10 @@ use Prim.Native.Nat.{ℕ, zero, suc, _+_, _*_, _≤_, _<_}
 use native.Mathlib.Nat.{zero-add, add-zero, mul-le-mul-left}
 use native.Mathlib.Numerals.{add-one}
 use native.Mathlib.Omega.{arith}
-use borrow.Author.Tests.{leb-true}
-use lib.Dec.{eqb, ltb, leb}
+use lib.Dec.{eqb, ltb}
 use lib.ListN.{length, drop, getD, replicate, length-map}
 use lib.Seq.{getD-drop, length-take-le}
 use Rattle.line.proofs.OutcomeLaws.{choice}
-use Rattle.line.proofs.TransactionLaws.{legal-parts}
 use Rattle.line.specs.Answer.{done, overlay}
 use Rattle.line.specs.Character.{byte}
 use Rattle.line.specs.Parity.{withParity}
@@ -32,7 +30,7 @@ use Rattle.central.specs.Reaction.{Rules, Central, Reaction, meets, takes}
 use Rattle.central.specs.Step.{rulesOf}
 use Rattle.central.specs.declared.state.Settings as CentralSettings
 use Rattle.device.proofs.BoundLaws.{transmissions-bound}
-use Rattle.device.proofs.SegmentsLaws.{segments-count}
+use Rattle.device.proofs.SegmentsLaws.{segments-few}
 use Rattle.device.proofs.StepLaws.{settings-parts}
 use Rattle.device.specs.Bound.{jobBlocks, transmissionsLeft}
 use Rattle.device.specs.Reaction.{segmentIn, stringBytes, verdictNumber}
@@ -101,15 +99,13 @@ counts-one (b ∷ bs) h = refl
 
 -- ── The bound ──
 
--- a legal transaction has at most 8 blocks
-blocks-few : (settings : DeviceSettings.Settings) (ts : Transactions) → allLegal ts ≡ true → jobBlocks settings ts ≤ 8 * length ts
+-- a legal transaction has at most 15 blocks
+blocks-few : (settings : DeviceSettings.Settings) (ts : Transactions) → allLegal ts ≡ true → jobBlocks settings ts ≤ 15 * length ts
 unfolding jobBlocks allLegal
 blocks-few settings [] h = omega arith
 blocks-few settings (t ∷ ts) h =
     let (l, rest) = and-eq-true-iff (legal t) (allLegal ts) .0 h in
-    let (sizes, _, _) = legal-parts t l in
-    let short = leb-true (length t) 2000 (and-eq-true-iff (leb 1 (length t)) (leb (length t) 2000) .0 sizes .1) in
-    omega (arith, blocks-few settings ts rest, segments-count settings t)
+    omega (arith, blocks-few settings ts rest, segments-few settings t l)
 
 -- so a run takes few transmissions
 pub sound-few : {s : Setup} (first : Transactions) → Sound s → all byte (s .job) ≡ true → mostTransmissions (inputsFrom s first) ≤ 10000
@@ -118,7 +114,7 @@ sound-few {s} first sound bytes =
     let job = encode-decode (s .job) (jobOf s) bytes (sound .read) .1 in
     omega (arith, mul-le-mul-left (s .device .retries + 1) (few (blocks-few (s .device) (jobOf s) (job .each)) (job .few)))
   where
-    few : {b n : ℕ} → b ≤ 8 * n → n ≤ 64 → b + 2 ≤ 514
+    few : {b n : ℕ} → b ≤ 15 * n → n ≤ 64 → b + 2 ≤ 962
     few p q = omega arith
 
 -- ── Between two transmissions ──

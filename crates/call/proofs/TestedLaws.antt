@@ -10,6 +10,7 @@ use Rattle.line.specs.Answer.{Outcome, done, refused, mapDone, output}
 use Rattle.line.specs.Test.{all}
 use Rattle.journal.specs.Storage.{decodeIn, isBuffer}
 use Rattle.journal.specs.Walk.{decode}
+use Rattle.device.specs.Step.{cutsAll}
 use Rattle.call.specs.Call.{Setup, endsInRange, fault, inputsOf, tested}
 use Rattle.call.specs.Driver.{jobOf, Sound}
 use Rattle.call.specs.Inner.{inputsIn}
@@ -56,13 +57,33 @@ module _ (s : Setup) (buffer : List ℕ) (n : ℕ) (faults : List ℕ) where
               let (ts, read, _) = map-done length (decode (s .job)) m counts in
               rw (ends, right, size, read, map-refused length (decodeIn buffer n) k e)
 
-          -- it is read
-          pub journal-read : (k : ℕ) → mapDone length (decodeIn buffer n) ≡ done k → done m ≡ count
-          unfolding tested
-          journal-read k e =
-              let (ts, read, long) = map-done length (decode (s .job)) m counts in
-              let (js, held, _) = map-done length (decodeIn buffer n) k e in
-              rw (ends, right, size, read, held) (ap done (sym long))
+  -- settings, faults and buffer pass, the job has m transactions, and the journal is well formed
+  pub record Read (m : ℕ) : Type 0 where
+    pub ends : ranged ≡ true
+    pub right : all fault faults ≡ true
+    pub size : isBuffer buffer ≡ true
+    pub counts : mapDone length (decode (s .job)) ≡ done m
+    pub many : ℕ
+    pub held : mapDone length (decodeIn buffer n) ≡ done many
+
+  module _ {m : ℕ} (r : Read m) where
+    -- a field of the job is too long for the device's way
+    pub uncut-refused : cutsAll (s .device .way) (jobOf s) ≡ false → refused 2 ≡ count
+    unfolding tested
+    uncut-refused h =
+        let (ts, read, _) = map-done length (decode (s .job)) m (r .counts) in
+        let (js, stored, _) = map-done length (decodeIn buffer n) (r .many) (r .held) in
+        let uncut = rw read at h in
+        rw (r .ends, r .right, r .size, read, stored, uncut)
+
+    -- none is
+    pub all-passed : cutsAll (s .device .way) (jobOf s) ≡ true → done m ≡ count
+    unfolding tested
+    all-passed h =
+        let (ts, read, long) = map-done length (decode (s .job)) m (r .counts) in
+        let (js, stored, _) = map-done length (decodeIn buffer n) (r .many) (r .held) in
+        let cut = rw read at h in
+        rw (r .ends, r .right, r .size, read, stored, cut) (ap done (sym long))
 
   -- what a call has that passed the tests
   pub record Passed (m : ℕ) : Type 0 where
@@ -79,12 +100,14 @@ module _ (s : Setup) (buffer : List ℕ) (n : ℕ) (faults : List ℕ) where
       let (tests, r) = passed (not (ranged && all fault faults)) 9 _ i made in
       let (_, r₂) = passed (not (isBuffer buffer)) 1 _ i r in
       let (ts, read, r₃) = then-done (decode (s .job)) _ i r₂ in
-      let (js, held, same) = map-done (inputsOf s ts) (decodeIn buffer n) i r₃ in
+      let (js, held, r₄) = then-done (decodeIn buffer n) _ i r₃ in
+      let (cut, r₅) = passed (not (cutsAll (s .device .way) ts)) 2 _ i r₄ in
+      let same : inputsOf s ts js ≡ i = cc in
       let job : jobOf s ≡ ts = ap output read in
       let journal : output (decodeIn buffer n) ≡ js = ap output held in
       let inputs : i ≡ inputsIn s buffer n = sym same ∙ rw (job, journal) in
       record {
-        sound = record { ranged = and-eq-true-iff ranged (all fault faults) .0 (not-false _ tests) .0; read = rw job read };
+        sound = record { ranged = and-eq-true-iff ranged (all fault faults) .0 (not-false _ tests) .0; read = rw job read; cut = rw job (not-false _ cut) };
         read = rw journal held;
         made = rw (← inputs) made;
         counts = rw (← long, inputs);

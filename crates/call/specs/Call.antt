@@ -56,12 +56,13 @@ fault f = ltb f 9
 
 -- the tests of a call, in their order, and the inputs of the run where they pass:
 -- 9 where settings, pager list or a fault are out of range, 1 where the journal's buffer has the wrong size,
--- 7 where job or journal are not well formed (R-10.9)
+-- 7 where job or journal are not well formed, 2 where a field of the job is too long for the device's way (R-10.9)
 unfoldable pub tested : Setup → List ℕ → ℕ → List ℕ → Outcome (Inputs Transactions)
 tested s buffer n faults =
     if not (endsInRange (s .device) (s .central) (s .pagers) && all fault faults) then refused 9
     else if not (isBuffer buffer) then refused 1
-    else andThen (decode (s .job)) (λ ts. mapDone (inputsOf s ts) (decodeIn buffer n))
+    else andThen (decode (s .job)) (λ ts. andThen (decodeIn buffer n) (λ rs.
+    if not (DeviceStep.cutsAll (s .device .way) ts) then refused 2 else done (inputsOf s ts rs)))
 
 -- ── The run ──
 

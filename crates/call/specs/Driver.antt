@@ -28,10 +28,11 @@ jobOf s = output (decode (s .job))
 abbrev pub inputsFrom : Setup → Transactions → Inputs Transactions
 inputsFrom s journal = inputsOf s (jobOf s) journal
 
--- settings and pager list are in range, and the job is well formed (R-10.10)
+-- settings and pager list are in range, the job is well formed, and the device's way can cut it (R-10.10)
 pub record Sound (s : Setup) : Type 0 where
   pub ranged : endsInRange (s .device) (s .central) (s .pagers) ≡ true
   pub read : decode (s .job) ≡ done (jobOf s)
+  pub cut : DeviceStep.cutsAll (s .device .way) (jobOf s) ≡ true
 
 -- ── Between two transmissions ──
 

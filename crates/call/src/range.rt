@@ -2,6 +2,7 @@
 use crate::fault::are_faults;
 use central::range::pagers_in_range;
 use central::range::settings_in_range as central_in_range;
+use device::job::cuts_all;
 use device::range::settings_in_range as device_in_range;
 use journal::buffer::check_in;
 use journal::buffer::is_buffer;
@@ -46,6 +47,10 @@ pub(crate) fn test(
     let Checked::Count(_) = checked else {
         return checked;
     };
+    let way = device.way;
+    if !cuts_all(way, job) {
+        return Checked::Refused(Refusal::Length);
+    }
     counted
 }
 

@@ -10,7 +10,8 @@ use Rattle.line.specs.Text.{bytesOf}
 use Rattle.line.specs.Transaction.{endsInCR}
 use Rattle.block.specs.Block.{blockOf, agrees, framed, summing, readBlock}
 use Rattle.block.specs.Checksum.{valueSum, checkCharacters}
-use Rattle.segmentation.specs.Segmentation.{segmentation, segmentsBy}
+use Rattle.segmentation.specs.Segmentation.{segmentationBy, segmentsBy}
+use Rattle.segmentation.specs.declared.way.Way.the-variants.{Filled}
 use Rattle.journal.specs.Encoding.{recordOf, recordsOf}
 use Rattle.journal.specs.Storage.{transactions}
 use Rattle.reply.specs.Reading.{restAfter, requests, accepts, codeRead, textRead, replyRead}
@@ -36,14 +37,14 @@ abbrev inputs : Inputs (List (List ℕ))
 inputs =
     record {
       job = stored ∷ unlisted ∷ [];
-      device = record { password = record { characters = 0x41 ∷ 0x31 ∷ 0 ∷ 0 ∷ 0 ∷ 0 ∷ []; length = 2 }; retries = 0 };
+      device = record { password = record { characters = 0x41 ∷ 0x31 ∷ 0 ∷ 0 ∷ 0 ∷ 0 ∷ []; length = 2 }; retries = 0; way = Filled };
       rules = record { password = bytesOf "A1"; longest = 2000; retries = 0; pagers = 123 ∷ []; storage = transactions };
       journal = [];
     }
 
 -- its run over a list of faults
 unfoldable faulty : List ℕ → Outcome (List (List ℕ))
-unfolding after exchange responds follows damagesFrom heard recognized reacts moves jobBlocks replyRead textRead codeRead requests accepts restAfter same all parityOff ones blockOf agrees framed summing readBlock valueSum checkCharacters segmentsOf segmentation segmentsBy recordOf recordsOf numberFrom firstField fieldCount listed content admits endsInCR
+unfolding after exchange responds follows damagesFrom heard recognized reacts moves jobBlocks replyRead textRead codeRead requests accepts restAfter same all parityOff ones blockOf agrees framed summing readBlock valueSum checkCharacters segmentsOf segmentationBy segmentsBy recordOf recordsOf numberFrom firstField fieldCount listed content admits endsInCR
 faulty faults = run inputs (faulted inputs faults)
 
 -- clean

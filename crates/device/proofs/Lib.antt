@@ -1,4 +1,5 @@
 pub mod BoundLaws
+pub mod CutLaws
 pub mod DeviceLaws
 pub mod JobLaws
 pub mod MeaningLaws

@@ -1,4 +1,4 @@
--- The segments of a legal transaction, however the settings cut it: they join to the transaction again, so that there is one, and each block is short enough and made of 7-bit values.
+-- The segments of a legal transaction, however the settings cut it: they join to the transaction again, so that there is one, there are at most 15, and each block is short enough and made of 7-bit values.
 use mathlib.Core.Bool.{true}
 use mathlib.Core.List.{List, []}
 use mathlib.Core.Path.{_≡_}
@@ -7,30 +7,28 @@ use lib.ListN.{length, getD}
 use Rattle.line.specs.Character.{seven}
 use Rattle.line.specs.Test.{all}
 use Rattle.line.specs.Transaction.{legal}
-use Rattle.line.proofs.TransactionLaws.{legal-transaction}
 use Rattle.block.specs.Block.{right}
 use Rattle.block.specs.Segments.{segment, Joins, segmentBlock}
 use Rattle.block.specs.declared.frame.Ending.the-variants.{Etx}
 use Rattle.block.proofs.SegmentsLaws.{joins-some, joins-at, joins-short, joins-seven}
-use Rattle.segmentation.specs.Segmentation.{blockCount}
-use Rattle.segmentation.proofs.SegmentationLaws.{segmentation-count, segmentation-legal}
+use Rattle.segmentation.proofs.SegmentationByLaws.{by-few, by-joins}
 use Rattle.device.specs.Reaction.{segmentsOf}
 use Rattle.device.specs.declared.state.Settings.{Settings}
-
--- how many the code counts
-pub segments-count : (settings : Settings) (t : List ℕ) → length (segmentsOf settings t) ≡ blockCount (length t)
-unfolding segmentsOf
-segments-count settings t = segmentation-count t
 
 module _ (settings : Settings) (t : List ℕ) (good : legal t ≡ true) where
   -- they join to it again
   pub segments-join : Joins (segmentsOf settings t) t
   unfolding segmentsOf
-  segments-join = segmentation-legal t (legal-transaction t good) .joins
+  segments-join = by-joins (settings .way) t good
 
   -- there is one
   pub segments-some : 1 ≤ length (segmentsOf settings t)
   segments-some = joins-some segments-join
+
+  -- and at most 15
+  pub segments-few : length (segmentsOf settings t) ≤ 15
+  unfolding segmentsOf
+  segments-few = by-few (settings .way) t good
 
   -- one of them
   module _ (i : ℕ) (h : i < length (segmentsOf settings t)) where

@@ -21,7 +21,7 @@ use Rattle.journal.specs.declared.record.Surveyed.the-variants.{Found, Refused}
 use Rattle.reply.specs.Reading.{replyRead}
 use Rattle.device.specs.Inner.{transactionOf}
 use Rattle.device.specs.Reaction.{Move, goes, first, moves}
-use Rattle.device.specs.Step.{settingsInRange, stepInRange, exists, Sent, sent, tested, stepped, started, answered, Steps}
+use Rattle.device.specs.Step.{settingsInRange, stepInRange, cutsAll, exists, Sent, sent, tested, stepped, started, answered, Steps}
 use Rattle.device.specs.declared.state.Settings.{Settings}
 use Rattle.device.specs.declared.state.State.{State}
 use Rattle.device.specs.declared.state.Step.{Step}
@@ -60,7 +60,8 @@ settings-parts s h =
 -- settings and state in range, and room for a string
 module _ (settings : Settings) (step : Step) (job : List ℕ) (room : ℕ) (ranged : settingsInRange settings ≡ true) (kept : stepInRange settings step ≡ true) (fits : 256 ≤ room) where
   -- the job decides
-  tested-job : tested settings step job room ≡ andThen (decode job) (λ ts. if not (exists settings ts step) then refused 9 else done ts)
+  tested-job : tested settings step job room ≡
+      andThen (decode job) (λ ts. if not (cutsAll (settings .way) ts) then refused 2 else if not (exists settings ts step) then refused 9 else done ts)
   unfolding tested
   tested-job = rw (ranged, kept, le-ltb room 256 fits)
 
@@ -70,13 +71,19 @@ module _ (settings : Settings) (step : Step) (job : List ℕ) (room : ℕ) (rang
 
   -- a job of these transactions
   module _ (ts : List (List ℕ)) (read : decode job ≡ done ts) where
-    -- without the place
-    pub tested-nowhere : exists settings ts step ≡ false → tested settings step job room ≡ refused 9
-    tested-nowhere h = tested-job ∙ rw (read, h)
+    -- with a field too long for the way
+    pub tested-uncut : cutsAll (settings .way) ts ≡ false → tested settings step job room ≡ refused 2
+    tested-uncut h = tested-job ∙ rw (read, h)
 
-    -- with the place
-    pub tested-there : exists settings ts step ≡ true → tested settings step job room ≡ done ts
-    tested-there h = tested-job ∙ rw (read, h)
+    -- that the way can cut
+    module _ (cut : cutsAll (settings .way) ts ≡ true) where
+      -- without the place
+      pub tested-nowhere : exists settings ts step ≡ false → tested settings step job room ≡ refused 9
+      tested-nowhere h = tested-job ∙ rw (read, cut, h)
+
+      -- with the place
+      pub tested-there : exists settings ts step ≡ true → tested settings step job room ≡ done ts
+      tested-there h = tested-job ∙ rw (read, cut, h)
 
 -- what has passed
 pub record Passes (settings : Settings) (step : Step) (job : List ℕ) (room : ℕ) (ts : List (List ℕ)) : Type 0 where
@@ -85,6 +92,7 @@ pub record Passes (settings : Settings) (step : Step) (job : List ℕ) (room : �
   pub range : stepInRange settings step ≡ true
   pub fits : 256 ≤ room
   pub read : decode job ≡ done ts
+  pub cut : cutsAll (settings .way) ts ≡ true
   pub there : exists settings ts step ≡ true
 
 -- all tests, where none refuses
@@ -95,7 +103,8 @@ tested-passes settings step job room ts h =
     let (settled, range) = and-eq-true-iff (settingsInRange settings) (stepInRange settings step) .0 (not-false _ tests) in
     let (fits, h₂) = passed (ltb room 256) _ _ _ h₁ in
     let (us, read, h₃) = then-done (decode job) _ ts h₂ in
-    let (there, h₄) = passed (not (exists settings us step)) _ _ _ h₃ in
+    let (cut, h₄) = passed (not (cutsAll (settings .way) us)) _ _ _ h₃ in
+    let (there, h₅) = passed (not (exists settings us step)) _ _ _ h₄ in
     let same : us ≡ ts = cc in
     record {
       password = settings-parts settings settled .0;
@@ -103,6 +112,7 @@ tested-passes settings step job room ts h =
       range = range;
       fits = ltb-false room 256 fits;
       read = rw same at read;
+      cut = rw same at (not-false (cutsAll (settings .way) us) cut);
       there = rw same at (not-false (exists settings us step) there);
     }
 

@@ -17,12 +17,14 @@ use Rattle.journal.specs.declared.record.Located.{Located}
 use Rattle.journal.proofs.RecordLaws.{legal-at}
 use Rattle.journal.proofs.SurveyLaws.{lies-at}
 use Rattle.reply.specs.declared.Reply.{Reply}
+use Rattle.segmentation.specs.Segmentation.{cuttable}
 use Rattle.device.specs.Inner.{transactionOf, extentFor, SendsOf, Waits}
 use Rattle.device.specs.Reaction.{Move, onwards, segmentsOf}
 use Rattle.device.specs.declared.state.Place.{Place}
 use Rattle.device.specs.declared.state.Settings.{Settings}
 use Rattle.device.specs.declared.state.Step.{Step}
 use Rattle.device.specs.declared.state.Step.the-variants.{Opening, Logon, Sending, Closing, Stopped}
+use Rattle.device.proofs.CutLaws.{cuts-at}
 use Rattle.device.proofs.JobLaws.{somewhere-parts}
 use Rattle.device.proofs.MoveLaws.{Leads, requested, reopens, unanswered, admitted, relogs, turned-away, accepted, continued, resends, exhausted, rejected, hung-up, unconfirmed, recloses, reported, stays}
 
@@ -43,6 +45,13 @@ waits-parts settings job p info w =
     let (t, b) = somewhere-parts settings job p (w .there) in
     let shows = w .shows in
     (t, rw shows at (legal-at job (p .transaction) (w .good) t), rw shows at b)
+
+-- which the settings' way can cut
+pub waits-cut : (settings : Settings) (job : List (List ℕ)) (p : Place) (info : List ℕ) → Waits settings job (Sending p) info → cuttable (settings .way) info ≡ true
+waits-cut settings job p info w =
+    let (t, _) = somewhere-parts settings job p (w .there) in
+    let shows = w .shows in
+    rw shows at (cuts-at (settings .way) job (p .transaction) (w .cut) t)
 
 -- ── The step behind it ──
 

@@ -9,7 +9,7 @@ use Rattle.line.specs.Test.{if_then_else_}
 use Rattle.journal.specs.Encoding.{allLegal}
 use Rattle.journal.specs.declared.record.Extent.{Extent}
 use Rattle.journal.specs.declared.record.Located.{Located}
-use Rattle.device.specs.Step.{exists}
+use Rattle.device.specs.Step.{cutsAll, exists}
 use Rattle.device.specs.declared.state.Settings.{Settings}
 use Rattle.device.specs.declared.state.Step.{Step}
 use Rattle.device.specs.declared.state.Step.the-variants.{Opening, Logon, Sending, Closing, Stopped}
@@ -34,8 +34,10 @@ SendsOf job (Sending p) info = getD job (p .transaction) [] ≡ info
 SendsOf job (Closing p) info = Unit {0}
 SendsOf job Stopped info = Unit {0}
 
--- the step's place exists in a job of legal transactions, and this is the one whose block it sends
+-- the step's place exists in a job of legal transactions that the settings' way can cut, and this is the one whose block it
+-- sends
 pub record Waits (settings : Settings) (job : List (List ℕ)) (step : Step) (info : List ℕ) : Type 0 where
   pub good : allLegal job ≡ true
+  pub cut : cutsAll (settings .way) job ≡ true
   pub there : exists settings job step ≡ true
   pub shows : SendsOf job step info

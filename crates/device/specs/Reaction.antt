@@ -13,7 +13,7 @@ use Rattle.line.specs.Text.{bytesOf}
 use Rattle.block.specs.Block.{Segment}
 use Rattle.block.specs.Segments.{segment, segmentBlock}
 use Rattle.block.specs.declared.frame.Ending.the-variants.{Etx}
-use Rattle.segmentation.specs.Segmentation.{segmentation}
+use Rattle.segmentation.specs.Segmentation.{segmentationBy}
 use Rattle.reply.specs.declared.Meaning.the-variants.{IdRequest, Acceptance, Ack, Nak, Rs, Eot}
 use Rattle.reply.specs.declared.Reply.{Reply}
 use Rattle.reply.specs.declared.Reply.the-variants.{Recognized, Unrecognized}
@@ -34,7 +34,7 @@ use Rattle.device.specs.declared.state.Verdict.the-variants.{Accepted, R
 
 -- the same settings with another retry limit
 abbrev pub withRetries : Settings → ℕ → Settings
-withRetries settings n = record { password = settings .password; retries = n }
+withRetries settings n = record { password = settings .password; retries = n; way = settings .way }
 
 -- ── Verdicts ──
 
@@ -67,9 +67,9 @@ again p = place (p .transaction) (p .block) (p .attempts + 1)
 
 -- ── What is sent ──
 
--- the segments of a transaction, cut as the settings say; there is one way (R-6.3)
+-- the segments of a transaction, cut in the way that the settings name (R-6.3)
 unfoldable pub segmentsOf : Settings → List ℕ → List Segment
-segmentsOf settings t = segmentation t
+segmentsOf settings t = segmentationBy (settings .way) t
 
 -- how many blocks a transaction of the job takes (R-6.4)
 abbrev pub blocksIn : Settings → List (List ℕ) → ℕ → ℕ

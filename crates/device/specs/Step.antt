@@ -1,6 +1,6 @@
 -- One step of the entry device: read, react, write.
 use mathlib.Core.Bool.{Bool, true, not, _&&_}
-use mathlib.Core.List.{List}
+use mathlib.Core.List.{List, [], _∷_}
 use mathlib.Core.Path.{_≡_}
 use Prim.Native.Nat.{ℕ, _+_}
 use lib.Dec.{leb, ltb, eqb}
@@ -10,6 +10,8 @@ use Rattle.line.specs.Password.{passwordInRange}
 use Rattle.line.specs.Test.{if_then_else_}
 use Rattle.line.specs.declared.answer.Written.{Written}
 use Rattle.journal.specs.Walk.{decode}
+use Rattle.segmentation.specs.Segmentation.{cuttable}
+use Rattle.segmentation.specs.declared.way.Way.{Way}
 use Rattle.reply.specs.Reading.{replyRead}
 use Rattle.device.specs.Reaction.{Move, moves, goes, givenAs, blocksIn, first, stringBytes}
 use Rattle.device.specs.declared.state.Place.{Place}
@@ -51,6 +53,11 @@ exists settings job (Sending p) = somewhere settings job p
 exists settings job (Closing p) = nowhere p
 exists settings job Stopped = true
 
+-- the way can cut every transaction of the job: no field is too long for it (R-6.10)
+unfoldable pub cutsAll : Way → List (List ℕ) → Bool
+cutsAll way [] = true
+cutsAll way (t ∷ ts) = cuttable way t && cutsAll way ts
+
 -- the step behind a move, with the string it sends
 pub record Sent : Type 0 where
   pub move : Move
@@ -62,12 +69,16 @@ sent settings job m = record { move = m; string = stringBytes settings job (m .n
 
 -- the tests of a step, in document 01's order: the transactions of the job, or
 -- 9 where settings or attempts are out of range, 1 where the output is short of 256,
--- 7 where the job is not well formed, 9 where transaction or block do not exist in it (R-6.7)
+-- 7 where the job is not well formed, 2 where a field of it is too long for the way, 9 where transaction or block do not
+-- exist in it (R-6.7, R-6.10)
 unfoldable pub tested : Settings → Step → List ℕ → ℕ → Outcome (List (List ℕ))
 tested settings step job room =
     if not (settingsInRange settings && stepInRange settings step) then refused 9
     else if ltb room 256 then refused 1
-    else andThen (decode job) (λ ts. if not (exists settings ts step) then refused 9 else done ts)
+    else andThen (decode job) (λ ts.
+    if not (cutsAll (settings .way) ts) then refused 2
+    else if not (exists settings ts step) then refused 9
+    else done ts)
 
 -- a step: what the reply does, once the tests are passed (R-6.4, R-11.4)
 unfoldable pub stepped : State → Settings → List ℕ → List ℕ → ℕ → Outcome Sent

@@ -1,4 +1,5 @@
 // The entry device: what it sends, and what it makes of each reply.
+pub mod job;
 pub mod range;
 mod reaction;
 pub mod state;

@@ -12,7 +12,6 @@ ghost use lib.ListN.{getD, length};
 ghost use Rattle.device.specs.Inner.{SendsOf, transactionOf};
 ghost use Rattle.device.specs.Reaction.{segmentsOf};
 ghost use Rattle.device.specs.Step.{attemptsInRange, exists, nowhere, settingsInRange, somewhere, stepInRange};
-ghost use Rattle.device.specs.declared.state.Settings.{Settings};
 
 // The most strings that open a call.
 pub(crate) const OPENINGS: usize = 3;
@@ -49,16 +48,16 @@ fn attempts_in_range(most: usize, place: Place) -> bool
 
 // The transaction and block of a saved step exist in a job of so many transactions, of which this
 // is the step's.
-pub(crate) fn place_exists(count: usize, info: &[u8], step: Step) -> bool
+pub(crate) fn place_exists(settings: Settings, count: usize, info: &[u8], step: Step) -> bool
     ensures { λ r. ⌜
-        ((settings : Settings) (job : List (List ℕ)) → length job ≡ count → SendsOf job step (now (info .entry)) →
+        ((job : List (List ℕ)) → length job ≡ count → SendsOf job step (now (info .entry)) →
         r ≡ exists settings job step)
         ⌝ }
 {
     match step {
         Step::Opening(place) => is_nowhere(place),
         Step::Logon(place) => is_nowhere(place),
-        Step::Sending(place) => block_exists(count, info, place),
+        Step::Sending(place) => block_exists(settings, count, info, place),
         Step::Closing(place) => is_nowhere(place),
         Step::Stopped => true,
     }
@@ -73,20 +72,21 @@ fn is_nowhere(place: Place) -> bool
 
 // The job, of so many transactions, has such a transaction, and that, with this information, such a
 // block.
-fn block_exists(count: usize, info: &[u8], place: Place) -> bool
+fn block_exists(settings: Settings, count: usize, info: &[u8], place: Place) -> bool
     ensures { λ r. ⌜
-        ((settings : Settings) (job : List (List ℕ)) → length job ≡ count →
+        ((job : List (List ℕ)) → length job ≡ count →
         getD job (place .transaction) [] ≡ now (info .entry) → r ≡ somewhere settings job place)
         ⌝ }
 {
-    (place.transaction < count) & (place.block < blocks_of(info))
+    (place.transaction < count) & (place.block < blocks_of(settings, info))
 }
 
 // How many blocks the transaction with this information takes.
-pub(crate) fn blocks_of(info: &[u8]) -> usize
-    ensures { λ r. ⌜ ((settings : Settings) → r ≡ length (segmentsOf settings (now (info .entry)))) ⌝ }
+pub(crate) fn blocks_of(settings: Settings, info: &[u8]) -> usize
+    ensures { λ r. ⌜ r ≡ length (segmentsOf settings (now (info .entry))) ⌝ }
 {
-    block_count(info.len())
+    let way = settings.way;
+    block_count(way, info)
 }
 
 // The transaction whose block a step sends; the first outside sending.

@@ -55,7 +55,7 @@ pub(crate) fn moves(settings: Settings, count: usize, info: &[u8], step: Step, r
         Step::Opening(place) => opens(place, reply),
         Step::Logon(place) => logs_on(settings, count, place, reply),
         Step::Sending(place) => {
-            let blocks = blocks_of(info);
+            let blocks = blocks_of(settings, info);
             sends(settings, count, blocks, place, reply)
         }
         Step::Closing(place) => closes(settings, place, reply),

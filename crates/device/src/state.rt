@@ -2,6 +2,7 @@
 use line::Password;
 use line::Written;
 use reply::Reply;
+use segmentation::Way;
 ghost use mathlib.Core.Path.{_≡_};
 ghost use Rattle.device.specs.Reaction.{verdictNumber};
 
@@ -9,6 +10,8 @@ pub struct Settings {
     pub password: Password,
     // How often a string is sent again after NAK, 0 to 9.
     pub retries: usize,
+    // How a transaction is cut into blocks.
+    pub way: Way,
 }
 
 // Which block of which transaction is waited for, both from 0, and how often the string was sent.

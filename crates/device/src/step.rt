@@ -1,4 +1,5 @@
 // One step of the entry device: a reply off the line, the next string and the state behind it.
+use crate::job::cuts_all;
 use crate::range::place_exists;
 use crate::range::settings_in_range;
 use crate::range::step_in_range;
@@ -70,7 +71,7 @@ pub fn step(state: State, settings: Settings, job: &[u8], reply: &[u8], out: &mu
 }
 
 // How many transactions the job has, and where the step's and the one behind it lie; or why the call
-// is refused. This is the one walk over the job.
+// is refused. This is the one walk over the job, besides the one for fields that are kept whole.
 fn test(settings: Settings, step: Step, job: &[u8], room: usize) -> Surveyed
     ensures { λ r. ⌜
         surveyedAs r ≡ mapDone (surveyOf (transactionOf step)) (tested settings step (now (job .entry)) room)
@@ -89,9 +90,13 @@ fn test(settings: Settings, step: Step, job: &[u8], room: usize) -> Surveyed
     let Surveyed::Found(found) = surveyed else {
         return surveyed;
     };
+    let way = settings.way;
+    if !cuts_all(way, job) {
+        return Surveyed::Refused(Refusal::Length);
+    }
     let count = found.count;
     let extent = found.here;
-    if !place_exists(count, part(job, extent), step) {
+    if !place_exists(settings, count, part(job, extent), step) {
         return Surveyed::Refused(Refusal::Range);
     }
     surveyed

@@ -8,6 +8,7 @@ use line::character::EOT;
 use line::character::ESC;
 use line::memory::copy;
 use line::parity::set_parity;
+use segmentation::Way;
 use segmentation::write_segment;
 ghost use mathlib.Core.Bool.{true};
 ghost use mathlib.Core.List.{List, map};
@@ -21,7 +22,7 @@ ghost use Rattle.line.specs.Password.{passwordInRange, passwordText};
 ghost use Rattle.line.specs.Test.{all};
 ghost use Rattle.line.specs.Transaction.{legal};
 ghost use Rattle.block.specs.Segments.{segmentBlock};
-ghost use Rattle.segmentation.specs.Segmentation.{segmentAt, segmentation};
+ghost use Rattle.segmentation.specs.Segmentation.{cuttable, segmentAtBy, segmentationBy};
 ghost use Rattle.device.specs.Inner.{Waits};
 ghost use Rattle.device.specs.Reaction.{logonText, stringBytes};
 
@@ -41,10 +42,11 @@ pub(crate) fn put_string(settings: Settings, info: &[u8], step: Step, out: &mut 
         ⌝ }
 {
     let password = settings.password;
+    let way = settings.way;
     match step {
         Step::Opening(_) => put_text(&[CR], out),
         Step::Logon(_) => put_logon(password, out),
-        Step::Sending(place) => put_segment(info, place.block, out),
+        Step::Sending(place) => put_segment(way, info, place.block, out),
         Step::Closing(_) => put_text(&[EOT, CR], out),
         Step::Stopped => 0,
     }
@@ -77,18 +79,19 @@ fn write_logon(password: Password, text: &mut [u8]) -> usize
 }
 
 // The block at an index of the transaction with this information.
-fn put_segment(info: &[u8], index: usize, out: &mut [u8]) -> usize
+fn put_segment(way: Way, info: &[u8], index: usize, out: &mut [u8]) -> usize
     requires { ⌜
-        (legal (now info) ≡ true) × (index < length (segmentation (now info))) × (256 ≤ length (now out))
+        (legal (now info) ≡ true) × (cuttable way (now info) ≡ true)
+        × (index < length (segmentationBy way (now info))) × (256 ≤ length (now out))
         ⌝ }
     ensures { λ r. ⌜
-        Laid (map withParity (segmentBlock (segmentAt (now (info .entry)) index)))
+        Laid (map withParity (segmentBlock (segmentAtBy way (now (info .entry)) index)))
         r (now (out .entry)) (now (out .exit))
         ⌝ }
 {
     let mut text = [0u8; ROOM];
-    // Never refused: the transaction is legal, and a block fits.
-    let Written::Count(n) = write_segment(info, index, &mut text) else {
+    // Never refused: the transaction is legal and can be cut, and a block fits.
+    let Written::Count(n) = write_segment(way, info, index, &mut text) else {
         return 0;
     };
     put_text(&text[..n], out)

@@ -1,2 +1,5 @@
+pub mod CutWholeLaws
+pub mod SegmentationByLaws
 pub mod SegmentationLaws
 pub mod WayLaws
+pub mod WholeFieldsLaws

@@ -1,1 +1,2 @@
 pub mod Segmentation
+pub mod WholeFields

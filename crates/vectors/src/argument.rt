@@ -1,7 +1,8 @@
 // A call in memory: a table of numbers, then the bytes of every word, one word behind the other. The
 // number at an index is where the word at that index begins, and the next one where it ends; there is
 // room for 31. The letter, the word at 0, begins where the table ends: the number at 0 is that of the
-// arguments.
+// arguments. A capital letter makes the call of the small one, and cuts into whole fields.
+use segmentation::Way;
 use std::num::wrapping_add_u8;
 use std::num::wrapping_add_u16;
 ghost use mathlib.Core.Path.{_≡_};
@@ -12,7 +13,7 @@ ghost use lib.ListN.{length};
 const TABLE: u16 = 64;
 
 // Where the letter stands.
-pub(crate) const LETTER: usize = 64;
+const LETTER: usize = 64;
 
 // Where the number of arguments stands.
 pub(crate) const COUNT: usize = 1;
@@ -30,6 +31,19 @@ struct Run {
 struct Place {
     word: u8,
     end: u16,
+}
+
+// The letter of the call, as a small one.
+pub(crate) fn letter_of(call: &[u8]) -> u8 {
+    byte(call, LETTER) % 32 + 96
+}
+
+// The way of cutting that the letter names.
+pub(crate) fn way_of(call: &[u8]) -> Way {
+    if byte(call, LETTER) < b'a' {
+        return Way::WholeFields;
+    }
+    Way::Filled
 }
 
 // The text that the call is on: its last argument.

@@ -6,11 +6,12 @@ use crate::answer::print_number;
 use crate::answer::print_refusal;
 use crate::answer::reply_name;
 use crate::argument::COUNT;
-use crate::argument::LETTER;
 use crate::argument::byte;
+use crate::argument::letter_of;
 use crate::argument::number;
 use crate::argument::part;
 use crate::argument::text;
+use crate::argument::way_of;
 use crate::argument::word;
 use crate::ends::PAGERS;
 use crate::ends::list_pagers;
@@ -43,6 +44,7 @@ use line::memory::copy;
 use reassembly::Reassembled;
 use reassembly::Reassembly;
 use reassembly::reassemble;
+use segmentation::Way;
 use segmentation::block_count;
 use segmentation::write_segment;
 use segmentation::write_segments;
@@ -66,7 +68,7 @@ struct Loan {
 // What comes of a call.
 pub(crate) fn print_answer(call: &[u8]) {
     let text = text(call);
-    match byte(call, LETTER) {
+    match letter_of(call) {
         b'c' => print_checksum(text),
         b'b' => print_sums(call),
         b'r' => print_block(text),
@@ -105,7 +107,7 @@ fn filled(byte: u8) -> [u8; 65536]
 fn loan_of(call: &[u8]) -> Loan
     ensures { λ r. ⌜ (r .size < 65536) × (r .room < 65536) ⌝ }
 {
-    match byte(call, LETTER) {
+    match letter_of(call) {
         b'd' => Loan {
             size: BUFFER,
             word: 5,
@@ -150,7 +152,7 @@ fn output_of(room: usize) -> Loan
 
 // What comes of a call in the memory that it lends.
 fn print_lent(call: &[u8], pagers: &[u32], memory: &mut [u8], out: &mut [u8]) {
-    match byte(call, LETTER) {
+    match letter_of(call) {
         b'd' | b'f' => print_conversation(call, pagers, memory, out),
         b'u' => print_run(call, pagers, memory, out),
         b'e' | b'g' => print_play(call, out),
@@ -175,12 +177,12 @@ pub(crate) fn print_outcome(call: &[u8], outcome: Written, memory: &[u8]) {
 
 // The call of a writer.
 fn write(call: &[u8], text: &[u8], memory: &mut [u8]) -> Written {
-    match byte(call, LETTER) {
+    match letter_of(call) {
         b'p' => line::parity::set_parity(text, memory),
         b'q' => line::parity::clear_parity(text, memory),
         b'w' => block::frame::write(text, ending_of(call), memory),
-        b's' => write_segments(text, memory),
-        b't' => write_segment(text, number(call, 2), memory),
+        b's' => write_segments(way_of(call), text, memory),
+        b't' => write_segment(way_of(call), text, number(call, 2), memory),
         _ => append::append(memory, word(call, 2).len(), text),
     }
 }
@@ -188,14 +190,23 @@ fn write(call: &[u8], text: &[u8], memory: &mut [u8]) -> Written {
 // The number of blocks before all blocks of a transaction, a journal by its digest, what an end of
 // the line puts out without its length.
 fn print_written(call: &[u8], written: &[u8]) {
-    match byte(call, LETTER) {
+    match letter_of(call) {
         b'd' | b'e' | b'f' | b'g' => print_bytes(NOTHING, written),
         b's' => {
-            print_number(NOTHING, block_count(text(call).len()));
-            print_counted(names::COLON, written);
+            print_number(NOTHING, block_count(way_of(call), text(call)));
+            print_blocks(names::COLON, way_of(call), written);
         }
+        b't' => print_blocks(NOTHING, way_of(call), written),
         b'a' => print_digest(NOTHING, written),
         _ => print_counted(NOTHING, written),
+    }
+}
+
+// Blocks: of whole fields by their digest, filled ones byte for byte.
+fn print_blocks(before: u8, way: Way, blocks: &[u8]) {
+    match way {
+        Way::WholeFields => print_digest(before, blocks),
+        Way::Filled => print_counted(before, blocks),
     }
 }
 

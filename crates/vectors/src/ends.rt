@@ -4,11 +4,12 @@ use crate::answer::print_digest;
 use crate::answer::print_number;
 use crate::answer::reply_name;
 use crate::argument::COUNT;
-use crate::argument::LETTER;
 use crate::argument::byte;
+use crate::argument::letter_of;
 use crate::argument::number;
 use crate::argument::number_at;
 use crate::argument::part;
+use crate::argument::way_of;
 use crate::argument::word;
 use crate::calls::print_outcome;
 use crate::names;
@@ -86,7 +87,7 @@ pub(crate) fn print_conversation(
 
 // From the start, or from the state that the call gives.
 fn first_heard(call: &[u8]) -> Heard {
-    if byte(call, LETTER) == b'd' {
+    if letter_of(call) == b'd' {
         let state = central::step::start(word(call, JOURNAL).len());
         return Heard {
             state,
@@ -176,7 +177,7 @@ fn print_central(call: &[u8], state: central::State, journal: &[u8], answer: &[u
     print_number(stage_name(stage), state.failures);
     print_number(SPACE, state.length);
     print_digest(SPACE, part(journal, 0, state.journal));
-    if byte(call, LETTER) == b'f' {
+    if letter_of(call) == b'f' {
         let pending = state.pending;
         print_number(SPACE, state.journal);
         print_digest(SPACE, part(&pending, 0, state.length));
@@ -212,7 +213,7 @@ pub(crate) fn print_play(call: &[u8], string: &mut [u8]) {
         index += 1;
         state = take(call, word(call, index), state, string);
     }
-    if byte(call, LETTER) == b'g' {
+    if letter_of(call) == b'g' {
         print_device(state);
         print_digest(SPACE, string);
     }
@@ -224,7 +225,7 @@ fn begin(call: &[u8], string: &mut [u8]) -> Begun {
     let outcome = started.outcome;
     let state = started.state;
     print_outcome(call, outcome, string);
-    if byte(call, LETTER) == b'g' {
+    if letter_of(call) == b'g' {
         return saved_device(call);
     }
     let before = if code(outcome) == 0 { JOB } else { ALL };
@@ -252,11 +253,12 @@ fn saved_device(call: &[u8]) -> Begun {
     }
 }
 
-// The entry device's settings: the password at an index, and the retry limit behind it.
+// The entry device's settings: the password at an index, the retry limit behind it, and the way.
 pub(crate) fn device_settings(call: &[u8], index: u8) -> device::Settings {
     device::Settings {
         password: password(word(call, index)),
         retries: number(call, wrapping_add_u8(index, 1)),
+        way: way_of(call),
     }
 }
 

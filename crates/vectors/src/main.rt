@@ -21,10 +21,10 @@ fn main() {
 }
 
 // Room for all of the input. The `ensures` gives only the length, which lending the array needs.
-fn buffer() -> [u8; 1048576]
-    ensures { λ r. ⌜ 1048576 ≡ length r ⌝ }
+fn buffer() -> [u8; 2097152]
+    ensures { λ r. ⌜ 2097152 ≡ length r ⌝ }
 {
-    [0; 1048576]
+    [0; 2097152]
 }
 
 // Every line of the input.

@@ -1,93 +1,86 @@
--- `put_segment` meets its contract: the part of the information that it cuts is the segment's, and so is the ending that it chooses; of a legal transaction it is written.
-use mathlib.Core.Path.{_≡_, _∙_}
-use Prim.Native.Nat.{_+_, _-_, _*_, _<_}
-use lib.Dec.{eqb}
-use lib.ListN.{length, take, drop}
-use Rattle.line.specs.Test.{if_then_else_}
-use Rattle.block.specs.Segments.{segment}
-use Rattle.segmentation.specs.Segmentation.{innerEnding, segmentation, segmentAt}
-use Rattle.block.specs.declared.frame.Ending.the-variants.{Etx}
-use Rattle.line.proofs.NumberLaws.{laid-count}
-use Rattle.block.proofs.FrameLaws.{write-right}
-use Rattle.segmentation.proofs.SegmentationLaws.{segmentation-count, segment-cut, segment-right}
+-- `put_segment` meets its contract: the piece that it cuts is the segment's, and so is the ending; of a legal transaction it is right.
+use mathlib.Core.Bool.{true}
+use mathlib.Core.Path.{_≡_}
+use Prim.Native.Nat.{_+_, _≤_}
+use lib.ListN.{length}
+use Rattle.block.specs.Block.{right}
+use Rattle.block.proofs.SegmentsLaws.{joins-at}
+use Rattle.segmentation.specs.Segmentation.{segmentAtBy}
+use Rattle.segmentation.proofs.SegmentationByLaws.{pieceFrom, by-joins, turn-at}
 use borrow.Author.Needs.{needs}
 use Rattle.segmentation.proofs.put_segment.Statement.{statement}
 use Rattle.segmentation.proofs.put_segment.Tie as tie
 
--- the segment, as it is cut
-cut : (b : tie.After-segment-length) →
-    let a = b .before .before .before .args in
-    let piece = take (250 * a .index + b .segment-length .result - 250 * a .index) (drop (250 * a .index) (a .info .now)) in
-    segmentAt (a .info .now) (a .index) ≡ segment piece (if eqb (a .index + 1) (length (segmentation (a .info .now))) then Etx else innerEnding piece)
+-- the piece is the segment
+cut : (b : tie.After-next-length) →
+    let a = b .before .before .before .before .before .args in
+    segmentAtBy (a .way) (a .info .now) (a .index) ≡ pieceFrom (a .info .now) (b .before .before .segment-start .result) (b .next-length .result)
 cut b =
-    let s = b .before .before .before in
-    segment-cut (s .args .info .now) (s .args .index) (b .segment-length .result) (rw (segmentation-count (s .args .info .now)) (s .pre .1)) (b .segment-length .ensures)
+    let s = b .before .before .before .before .before in
+    let (within, here) = b .before .before .segment-start .ensures in
+    turn-at (s .args .way) (s .args .info .now) _ _ within (b .next-length .ensures) (s .args .index) here (s .pre .1)
 
-mul-from : tie.Need-mul-from
-mul-from c = search needs
+-- so it is right, and there is room for it
+fits : (b : tie.After-next-length) →
+    let s = b .before .before .before .before .before in
+    let g = pieceFrom (s .args .info .now) (b .before .before .segment-start .result) (b .next-length .result) in
+    (length (g .info) ≤ 250) × (right (g .info) (g .ending) ≡ true) × (length (g .info) + 6 ≤ length (s .args .out .now))
+fits b =
+    let s = b .before .before .before .before .before in
+    let (short, good) = rw (cut b) at (joins-at (by-joins (s .args .way) (s .args .info .now) (s .pre .0)) (s .args .index) (s .pre .1)) in
+    (short, good, rw (cut b) at (s .pre .2))
 
-segment-length-requires : tie.Need-segment-length-requires
-segment-length-requires c κs = search needs
+segment-start-requires : tie.Need-segment-start-requires
+segment-start-requires c κs = search needs
+
+sub-next-length : tie.Need-sub-next-length
+sub-next-length c = search needs
+
+part-next-length-start : tie.Need-part-next-length-start
+part-next-length-start c = search needs
+
+part-next-length-end : tie.Need-part-next-length-end
+part-next-length-end c = search needs
+
+next-length-requires : tie.Need-next-length-requires
+next-length-requires c κs = search needs
 
 add-end : tie.Need-add-end
 add-end c = search needs
 
-sub-piece : tie.Need-sub-piece
-sub-piece c = search needs
+sub-put-piece : tie.Need-sub-put-piece
+sub-put-piece c = search needs
 
-part-piece-start : tie.Need-part-piece-start
-part-piece-start c = search needs
+part-put-piece-start : tie.Need-part-put-piece-start
+part-put-piece-start c = search needs
 
-part-piece-end : tie.Need-part-piece-end
-part-piece-end c = search needs
+part-put-piece-end : tie.Need-part-put-piece-end
+part-put-piece-end c = search needs
 
-add-last : tie.Need-add-last
-add-last c = search needs
-
-block-count-requires : tie.Need-block-count-requires
-block-count-requires c κs = search needs
-
-segment-ending-requires : tie.Need-segment-ending-requires
-segment-ending-requires c κs = search needs
-
-write-requires : tie.Need-write-requires
-write-requires c κs = search needs
-
-count-requires : tie.Need-count-requires
-count-requires c κs = search needs
+put-piece-requires : tie.Need-put-piece-requires
+put-piece-requires c κs = fits (c .before .before)
 
 same-length : tie.Need-same-length
 same-length c = search needs
 
 returns : tie.Need-returns
 returns c =
-    let w = c .before .before .before in
-    let e = w .before .before in
-    let b = e .before .before .before in
-    let s = b .before .before .before in
-    let t = s .args .info .now in
-    let ending = rw (e .before .block-count .ensures, ← segmentation-count t) at (e .segment-ending .ensures) in
-    let n = 250 * s .args .index + b .segment-length .result - 250 * s .args .index in
-    let piece = take n (drop (250 * s .args .index) t) in
-    let g : segmentAt t (s .args .index) ≡ segment piece (e .segment-ending .result) = cut b ∙ rw (← ending) in
-    let place : s .args .index < length (segmentation t) = rw (segmentation-count t) (s .pre .1) in
-    let (short, good) = rw g at (segment-right t (s .args .index) (s .pre .0) place) in
-    rw g (laid-count (write-right _ _ _ (rw g at (s .pre .2)) short good) (w .write .ensures) (c .count .ensures))
+    let p = c .before .before in
+    rw (cut (p .before .before .before)) (p .put-piece .ensures)
 
 pub put-segment-spec : {M : Type 1} → statement M
 put-segment-spec =
     tie.close
     (tie.spec
-    mul-from
-    segment-length-requires
+    segment-start-requires
+    sub-next-length
+    part-next-length-start
+    part-next-length-end
+    next-length-requires
     add-end
-    sub-piece
-    part-piece-start
-    part-piece-end
-    add-last
-    block-count-requires
-    segment-ending-requires
-    write-requires
-    count-requires
+    sub-put-piece
+    part-put-piece-start
+    part-put-piece-end
+    put-piece-requires
     same-length
     returns)

@@ -1,50 +1,44 @@
--- `write_segments` meets its contract: each return is the case of `writeSegments` that the tests before it leave.
-use mathlib.Core.Path.{_≡_, sym, _∙_}
+-- `write_segments` meets its contract: each return is the case of `writeSegments` that the tests before it leave, and the room that a way asks for holds all its blocks.
+use mathlib.Core.Bool.{true}
+use mathlib.Core.Path.{_≡_, sym, ap, _∙_}
 use borrow.Author.Needs.{needs}
 use borrow.Author.Tests.{lt-ltb, le-ltb}
 use lib.ListN.{length}
-use Prim.Native.Nat.{_+_, _*_, _≤_}
-use Rattle.line.specs.Answer.{done}
-use Rattle.line.specs.Transaction.{ofTransaction}
-use Rattle.line.proofs.OverlayLaws.{wrote-refused}
-use Rattle.line.proofs.TransactionLaws.{of-legal, of-done, of-refused}
-use Rattle.block.specs.Segments.{blocksOf}
-use Rattle.segmentation.specs.Segmentation.{segmentation, writeSegments}
+use Rattle.line.specs.Answer.{checkedAs, done}
+use Rattle.line.specs.Transaction.{legal}
 use Rattle.line.proofs.LaidLaws.{wrote-laid}
-use Rattle.segmentation.proofs.SegmentationLaws.{segmentation-count}
+use Rattle.line.proofs.OverlayLaws.{wrote-refused}
+use Rattle.block.specs.Segments.{blocksOf}
+use Rattle.segmentation.specs.Segmentation.{cuttable, ofCuttable, segmentationBy, writeSegments}
+use Rattle.segmentation.proofs.SegmentationByLaws.{cuttable-done, cuttable-legal, cuttable-refused, room-holds}
 use Rattle.segmentation.proofs.write_segments.Statement.{statement}
 use Rattle.segmentation.proofs.write_segments.Tie as tie
 
--- the output has room for the blocks
-fits : (c : tie.Else1) →
-    let a = c .before .before .before .before .args in
-    length (a .info .now) + 6 * length (segmentation (a .info .now)) ≤ length (a .out .now)
-fits c = rw (segmentation-count (c .before .before .before .before .args .info .now), ← c .before .block-count .ensures) (c .if1 .left)
-
--- so they are written where the information is a transaction's
+-- the output has room for the blocks, so they are written where the way can cut the information
 passes : (c : tie.Else1) →
     let a = c .before .before .before .before .args in
-    writeSegments (a .info .now) (length (a .out .now)) ≡ ofTransaction (a .info .now) (done (blocksOf (segmentation (a .info .now))))
+    writeSegments (a .way) (a .info .now) (length (a .out .now)) ≡ ofCuttable (a .way) (a .info .now) (done (blocksOf (segmentationBy (a .way) (a .info .now))))
 unfolding writeSegments
-passes c = rw (le-ltb _ _ (fits c))
+passes c = rw (le-ltb _ _ (rw (c .before .room-for .ensures) at (c .if1 .left)))
 
-block-count-requires : tie.Need-block-count-requires
-block-count-requires c κs = search needs
+-- it can
+good : (c : tie.After-enum-told) →
+    let a = c .before .before .before .before .before .before .before .args in
+    (legal (a .info .now) ≡ true) × (cuttable (a .way) (a .info .now) ≡ true)
+good c =
+    let k = c .before .before in
+    let a = k .before .before .before .before .before .args in
+    cuttable-done (a .way) (a .info .now) _ _ (sym (k .check-cuttable .ensures) ∙ ap checkedAs (c .enum-told .given .1))
 
-mul-if1 : tie.Need-mul-if1
-mul-if1 c = search needs
-
-add-if1 : tie.Need-add-if1
-add-if1 c = search needs
+room-for-requires : tie.Need-room-for-requires
+room-for-requires c κs = search needs
 
 returns : tie.Need-returns
 unfolding writeSegments
-returns c =
-    let t = c .before .before .before .before .args .info .now in
-    wrote-refused _ _ (rw (segmentation-count t, lt-ltb _ _ (rw (c .before .block-count .ensures) at (c .if1 .taken))))
+returns c = wrote-refused _ _ (rw (lt-ltb _ _ (rw (c .before .room-for .ensures) at (c .if1 .taken))))
 
-check-transaction-requires : tie.Need-check-transaction-requires
-check-transaction-requires c κs = search needs
+check-cuttable-requires : tie.Need-check-cuttable-requires
+check-cuttable-requires c κs = search needs
 
 enum-known-refusal : tie.Need-enum-known-refusal
 enum-known-refusal c = search needs
@@ -54,38 +48,34 @@ enum-told c = search needs
 
 put-segments-requires : tie.Need-put-segments-requires
 put-segments-requires c κs =
-    let d = c .before .before .before in
-    let a = d .before .before .before .before .before .args in
-    let counts = rw (c .before .enum-told .given .1) at (d .check-transaction .ensures) in
-    (of-done (a .info .now) _ _ (sym counts) .0, fits (d .before))
+    let k = c .before .before .before in
+    let a = k .before .before .before .before .before .args in
+    let (whole, _) = good (c .before) in
+    (whole, room-holds (a .way) (a .info .now) whole _ (rw (k .before .before .room-for .ensures) at (k .before .if1 .left)))
 
 returns-2 : tie.Need-returns-2
 returns-2 c =
-    let d = c .before .before .before in
-    let a = d .before .before .before .before .before .args in
-    let refuses = rw (c .before .refusal .given .1) at (d .check-transaction .ensures) in
-    wrote-refused _ _ (passes (d .before) ∙ of-refused (a .info .now) _ _ _ (sym refuses))
+    let k = c .before .before .before in
+    let a = k .before .before .before .before .before .args in
+    wrote-refused _ _ (passes (k .before) ∙ cuttable-refused (a .way) (a .info .now) _ _ _ (sym (k .check-cuttable .ensures) ∙ ap checkedAs (c .before .refusal .given .1)))
 
 same-length : tie.Need-same-length
 same-length c = search needs
 
 returns-3 : tie.Need-returns-3
 returns-3 c =
-    let d = c .before .before .before .before .before .before in
-    let a = d .before .before .before .before .before .args in
-    let counts = rw (c .before .before .before .before .enum-told .given .1) at (d .check-transaction .ensures) in
-    let legal = of-done (a .info .now) _ _ (sym counts) .0 in
-    wrote-laid (passes (d .before) ∙ of-legal (a .info .now) _ legal) (c .before .before .put-segments .ensures)
+    let t = c .before .before .before .before in
+    let a = t .before .before .before .before .before .before .before .args in
+    let (whole, cut) = good t in
+    wrote-laid (passes (t .before .before .before) ∙ cuttable-legal (a .way) (a .info .now) _ whole cut) (c .before .before .put-segments .ensures)
 
 pub write-segments-spec : {M : Type 1} → statement M
 write-segments-spec =
     tie.close
     (tie.spec
-    block-count-requires
-    mul-if1
-    add-if1
+    room-for-requires
     returns
-    check-transaction-requires
+    check-cuttable-requires
     enum-known-refusal
     enum-told
     put-segments-requires

@@ -6,8 +6,11 @@ use Rattle.abi.proofs.devices.settings_of.Tie as tie
 password-of-requires : tie.Need-password-of-requires
 password-of-requires c κs = search needs
 
+way-of-requires : tie.Need-way-of-requires
+way-of-requires c κs = search needs
+
 returns : tie.Need-returns
-returns c = rw (c .password-of .ensures)
+returns c = rw (c .way-of .ensures, c .before .password-of .ensures)
 
 pub settings-of-spec : {M : Type 1} → statement M
-settings-of-spec = tie.close (tie.spec password-of-requires returns)
+settings-of-spec = tie.close (tie.spec password-of-requires way-of-requires returns)

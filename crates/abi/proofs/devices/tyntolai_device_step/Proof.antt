@@ -1,6 +1,7 @@
--- `tyntolai_device_step` meets its contract: a record with no step is refused, else the step that it is goes on.
+-- `tyntolai_device_step` meets its contract: a record with no step and settings with no way are refused, else the step that it is goes on.
 use borrow.Author.Tests.{lt-ltb, le-ltb}
 use Rattle.abi.specs.Devices.{deviceStepped}
+use Rattle.abi.specs.Settings.{ofWay}
 use Rattle.abi.proofs.CallerLaws.{device-refused, device-steps}
 use borrow.Author.Needs.{needs}
 use Rattle.abi.proofs.devices.tyntolai_device_step.Statement.{statement}
@@ -12,6 +13,13 @@ refuse-requires c κs = search needs
 returns : tie.Need-returns
 unfolding deviceStepped
 returns c = rw (lt-ltb 4 _ (c .before .if1 .taken)) (device-refused _ (c .refuse .ensures))
+
+refuse-requires-2 : tie.Need-refuse-requires-2
+refuse-requires-2 c κs = search needs
+
+returns-2 : tie.Need-returns-2
+unfolding deviceStepped ofWay
+returns-2 c = rw (le-ltb 4 _ (c .before .before .before .if1 .left), lt-ltb 1 _ (c .before .if2 .taken)) (device-refused _ (c .refuse2 .ensures))
 
 step-of-requires : tie.Need-step-of-requires
 step-of-requires c κs = search needs
@@ -28,9 +36,13 @@ pack-requires c κs = search needs
 same-length : tie.Need-same-length
 same-length c = search needs
 
-returns-2 : tie.Need-returns-2
-unfolding deviceStepped
-returns-2 c = rw (le-ltb 4 _ (c .before .before .before .before .before .before .before .if1 .left)) (device-steps _ _ (rw (c .before .before .before .before .before .before .step-of .ensures, c .before .before .before .before .before .settings-of .ensures) at (c .before .before .before .step .ensures)) (c .pack .ensures))
+returns-3 : tie.Need-returns-3
+unfolding deviceStepped ofWay
+returns-3 c =
+    let t = c .before .before .before in
+    let g = t .before .before .before in
+    rw (le-ltb 4 _ (g .before .before .before .if1 .left), le-ltb 1 _ (g .before .if2 .left))
+    (device-steps _ _ (rw (g .step-of .ensures, t .before .before .settings-of .ensures) at (t .step .ensures)) (c .pack .ensures))
 
 pub tyntolai-device-step-spec : {M : Type 1} → statement M
 tyntolai-device-step-spec =
@@ -38,9 +50,11 @@ tyntolai-device-step-spec =
     (tie.spec
     refuse-requires
     returns
+    refuse-requires-2
+    returns-2
     step-of-requires
     settings-of-requires
     step-requires
     pack-requires
     same-length
-    returns-2)
+    returns-3)

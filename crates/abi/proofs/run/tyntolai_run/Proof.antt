@@ -1,8 +1,17 @@
--- `tyntolai_run` meets its contract: the run, and its answer in numbers.
-use Rattle.abi.proofs.CallerLaws.{runs}
+-- `tyntolai_run` meets its contract: device settings with no way are refused, else it is the run, and its answer in numbers.
+use borrow.Author.Tests.{lt-ltb, le-ltb}
+use Rattle.abi.specs.Settings.{ofWay}
+use Rattle.abi.proofs.CallerLaws.{run-refused, runs}
 use borrow.Author.Needs.{needs}
 use Rattle.abi.proofs.run.tyntolai_run.Statement.{statement}
 use Rattle.abi.proofs.run.tyntolai_run.Tie as tie
+
+pack-totals-requires : tie.Need-pack-totals-requires
+pack-totals-requires c κs = search needs
+
+returns : tie.Need-returns
+unfolding ofWay
+returns c = rw (lt-ltb 1 _ (c .before .if1 .taken)) (run-refused _ _ (c .pack-totals .ensures))
 
 settings-of-requires : tie.Need-settings-of-requires
 settings-of-requires c κs = search needs
@@ -13,8 +22,8 @@ settings-of-requires-2 c κs = search needs
 run-requires : tie.Need-run-requires
 run-requires c κs = search needs
 
-pack-totals-requires : tie.Need-pack-totals-requires
-pack-totals-requires c κs = search needs
+pack-totals-requires-2 : tie.Need-pack-totals-requires-2
+pack-totals-requires-2 c κs = search needs
 
 same-length : tie.Need-same-length
 same-length c = search needs
@@ -22,17 +31,23 @@ same-length c = search needs
 same-length-2 : tie.Need-same-length-2
 same-length-2 c = search needs
 
-returns : tie.Need-returns
-returns c = runs (rw (c .before .before .before .before .before .before .before .before .settings-of2 .ensures, c .before .before .before .before .before .before .before .before .before .settings-of .ensures) at (c .before .before .before .before .before .run .ensures)) (c .pack-totals .ensures)
+returns-2 : tie.Need-returns-2
+unfolding ofWay
+returns-2 c =
+    let t = c .before .before .before .before .before in
+    let g = t .before .before .before in
+    rw (le-ltb 1 _ (g .before .before .if1 .left)) (runs (rw (g .settings-of2 .ensures, g .before .settings-of .ensures) at (t .run .ensures)) (c .pack-totals2 .ensures))
 
 pub tyntolai-run-spec : {M : Type 1} → statement M
 tyntolai-run-spec =
     tie.close
     (tie.spec
+    pack-totals-requires
+    returns
     settings-of-requires
     settings-of-requires-2
     run-requires
-    pack-totals-requires
+    pack-totals-requires-2
     same-length
     same-length-2
-    returns)
+    returns-2)

@@ -5,8 +5,8 @@ use borrow.Author.Tests.{not-true, not-false}
 use Rattle.line.specs.Answer.{checkedAs}
 use Rattle.line.specs.Test.{all}
 use Rattle.journal.specs.Storage.{isBuffer}
-use Rattle.call.specs.Call.{endsInRange, fault}
-use Rattle.call.proofs.TestedLaws.{ends-refused, faults-refused, size-refused, job-refused, journal-refused, journal-read}
+use Rattle.call.specs.Call.{endsInRange, fault, setup}
+use Rattle.call.proofs.TestedLaws.{ends-refused, faults-refused, size-refused, job-refused, journal-refused, Read, uncut-refused, all-passed}
 use borrow.Author.Needs.{needs}
 use Rattle.call.proofs.range.test.Statement.{statement}
 use Rattle.call.proofs.range.test.Tie as tie
@@ -22,6 +22,24 @@ right c = sym (c .before .are-faults .ensures) ∙ not-false _ (c .if2 .left)
 -- the buffer has its size
 sized : (c : tie.Else3) → isBuffer (c .before .before .before .before .before .before .before .before .before .before .args .journal .now) ≡ true
 sized c = sym (c .before .is-buffer .ensures) ∙ not-false _ (c .if3 .left)
+
+-- the job and the journal are well formed
+both : (c : tie.After-enum-told3) →
+    let d = c .before .before in
+    let a = d .before .before .before .before .before .before .before .before .before .before .before .before .before .before .args in
+    Read (setup (a .device) (a .central) (a .pagers .now) (a .job .now)) (a .journal .now) (a .length) (a .faults .now) (d .before .enum-told .given .0 .0)
+both c =
+    let d = c .before .before in
+    let k = d .before .before .before in
+    let s = k .before in
+    record {
+      ends = ranged (s .before .before .before .before);
+      right = right (s .before .before);
+      size = sized s;
+      counts = sym (k .check .ensures) ∙ ap checkedAs (d .before .enum-told .given .1);
+      many = c .enum-told3 .given .0 .0;
+      held = sym (d .check-in .ensures) ∙ ap checkedAs (c .enum-told3 .given .1);
+    }
 
 ends-in-range-requires : tie.Need-ends-in-range-requires
 ends-in-range-requires c κs = search needs
@@ -75,14 +93,16 @@ returns-5 c =
     let counts = sym (k .check .ensures) ∙ ap checkedAs (d .before .enum-told .given .1) in
     told ∙ journal-refused _ _ _ _ (ranged (s .before .before .before .before)) (right (s .before .before)) (sized s) _ counts _ (sym (d .check-in .ensures) ∙ told)
 
+cuts-all-requires : tie.Need-cuts-all-requires
+cuts-all-requires c κs = search needs
+
 returns-6 : tie.Need-returns-6
-returns-6 c =
-    let d = c .before .before in
-    let told = ap checkedAs (c .enum-told3 .given .1) in
-    let k = d .before .before .before in
-    let s = k .before in
-    let first = ap checkedAs (d .before .enum-told .given .1) in
-    first ∙ journal-read _ _ _ _ (ranged (s .before .before .before .before)) (right (s .before .before)) (sized s) _ (sym (k .check .ensures) ∙ first) _ (sym (d .check-in .ensures) ∙ told)
+returns-6 c = uncut-refused _ _ _ _ (both (c .before .before)) (sym (c .before .cuts-all .ensures) ∙ not-true _ (c .if4 .taken))
+
+returns-7 : tie.Need-returns-7
+returns-7 c =
+    let t = c .before .before in
+    ap checkedAs (t .before .before .before .enum-told .given .1) ∙ all-passed _ _ _ _ (both t) (sym (c .before .cuts-all .ensures) ∙ not-false _ (c .if4 .left))
 
 pub test-spec : {M : Type 1} → statement M
 test-spec =
@@ -102,4 +122,6 @@ test-spec =
     enum-told-3
     enum-told-4
     returns-5
-    returns-6)
+    cuts-all-requires
+    returns-6
+    returns-7)

@@ -7,7 +7,7 @@ blocks-of-requires : tie.Need-blocks-of-requires
 blocks-of-requires c κs = search needs
 
 returns : tie.Need-returns
-returns c = λ settings job counts shows. rw (counts, shows, ← c .before .blocks-of .ensures settings)
+returns c = λ job counts shows. rw (counts, shows, ← c .before .blocks-of .ensures)
 
 pub block-exists-spec : {M : Type 1} → statement M
 block-exists-spec = tie.close (tie.spec blocks-of-requires returns)

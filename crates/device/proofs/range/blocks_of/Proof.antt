@@ -1,5 +1,5 @@
--- `blocks_of` meets its contract: the blocks are counted by the length of the transaction.
-use Rattle.device.proofs.SegmentsLaws.{segments-count}
+-- `blocks_of` meets its contract: the blocks are counted in the settings' way.
+use Rattle.device.specs.Reaction.{segmentsOf}
 use borrow.Author.Needs.{needs}
 use Rattle.device.proofs.range.blocks_of.Statement.{statement}
 use Rattle.device.proofs.range.blocks_of.Tie as tie
@@ -8,7 +8,8 @@ block-count-requires : tie.Need-block-count-requires
 block-count-requires c κs = search needs
 
 returns : tie.Need-returns
-returns c = λ settings. rw segments-count (c .block-count .ensures)
+unfolding segmentsOf
+returns c = c .block-count .ensures
 
 pub blocks-of-spec : {M : Type 1} → statement M
 blocks-of-spec = tie.close (tie.spec block-count-requires returns)

@@ -31,19 +31,19 @@ enum-told : tie.Need-enum-told
 enum-told c = search needs
 
 returns : tie.Need-returns
-returns c = λ settings job counts shows. rw (c .before .before .step .given .1) (c .is-nowhere .ensures)
+returns c = λ job counts shows. rw (c .before .before .step .given .1) (c .is-nowhere .ensures)
 
 returns-2 : tie.Need-returns-2
-returns-2 c = λ settings job counts shows. rw (c .before .before .step2 .given .1) (c .is-nowhere2 .ensures)
+returns-2 c = λ job counts shows. rw (c .before .before .step2 .given .1) (c .is-nowhere2 .ensures)
 
 returns-3 : tie.Need-returns-3
-returns-3 c = λ settings job counts shows. rw (c .before .before .step3 .given .1) (c .block-exists .ensures settings job counts (rw (c .before .before .step3 .given .1) at shows))
+returns-3 c = λ job counts shows. rw (c .before .before .step3 .given .1) (c .block-exists .ensures job counts (rw (c .before .before .step3 .given .1) at shows))
 
 returns-4 : tie.Need-returns-4
-returns-4 c = λ settings job counts shows. rw (c .before .before .step4 .given .1) (c .is-nowhere3 .ensures)
+returns-4 c = λ job counts shows. rw (c .before .before .step4 .given .1) (c .is-nowhere3 .ensures)
 
 returns-5 : tie.Need-returns-5
-returns-5 c = λ settings job counts shows. rw (c .enum-told .given .1)
+returns-5 c = λ job counts shows. rw (c .enum-told .given .1)
 
 pub place-exists-spec : {M : Type 1} → statement M
 place-exists-spec =

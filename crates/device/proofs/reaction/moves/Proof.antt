@@ -30,7 +30,7 @@ sends-requires c κs =
     let (job, count, waits) = s .pre .1 in
     let step = c .before .before .step3 .given in
     let (t, _, b) = waits-parts (s .args .settings) job (step .0 .0) (s .args .info .now) (rw (step .1) at waits) in
-    (s .pre .0, rw count at t, rw (c .blocks-of .ensures (s .args .settings)) b)
+    (s .pre .0, rw count at t, rw (c .blocks-of .ensures) b)
 
 enum-known-step-4 : tie.Need-enum-known-step-4
 enum-known-step-4 c = search needs
@@ -58,7 +58,7 @@ returns-3 c = λ job count waits.
     let s = c .before .before .before .before .before .before in
     let step = c .before .before .before .step3 .given .1 in
     let shows = (rw step at waits) .shows in
-    rw step (c .sends .ensures job count (rw shows (sym (c .before .blocks-of .ensures (s .args .settings)))))
+    rw step (c .sends .ensures job count (rw shows (sym (c .before .blocks-of .ensures))))
 
 returns-4 : tie.Need-returns-4
 unfolding moves

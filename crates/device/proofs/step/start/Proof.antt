@@ -37,7 +37,7 @@ waits c =
     let k = c .before .before .before .before .before in
     let (ts, _, passes, _) = passing k in
     let good = decode-legal (k .before .before .before .before .before .args .job .now) ts (passes .read) in
-    rw (opening c, c .before .first .ensures) (record { good = good; there = refl; shows = tt })
+    rw (opening c, c .before .first .ensures) (record { good = good; cut = passes .cut; there = refl; shows = tt })
 
 test-requires : tie.Need-test-requires
 test-requires c κs = search needs

@@ -47,6 +47,7 @@ waits c =
     let (ts, _, passes, _) = passing k in
     record {
       good = decode-legal (a .job .now) ts (passes .read);
+      cut = passes .cut;
       there = passes .there;
       shows = sends-own ts (a .state .step) _ (sym (lies k .holds) ∙ sym (c .part .ensures));
     }
@@ -87,6 +88,7 @@ waits-near c =
     let shows = leads-near (a .settings) ts (moves-lead (a .settings) ts (a .state .step) (replyRead (a .reply .now))) in
     record {
       good = good;
+      cut = passes .cut;
       there = rw next (moves-exist (a .settings) ts good (a .state .step) (replyRead (a .reply .now)) (passes .there));
       shows = rw (c .part2 .ensures, lies-near (c .before) .holds, next) shows;
     }

@@ -10,8 +10,8 @@ use Rattle.line.proofs.OutcomeLaws.{map-done, map-refused}
 use Rattle.journal.specs.Survey.{Lies, surveyOf, surveyedAs}
 use Rattle.journal.specs.Walk.{decode}
 use Rattle.device.specs.Inner.{transactionOf}
-use Rattle.device.specs.Step.{exists, settingsInRange, stepInRange, tested}
-use Rattle.device.proofs.StepLaws.{settings-parts, tested-malformed, tested-nowhere, tested-there}
+use Rattle.device.specs.Step.{cutsAll, exists, settingsInRange, stepInRange, tested}
+use Rattle.device.proofs.StepLaws.{settings-parts, tested-malformed, tested-nowhere, tested-there, tested-uncut}
 use Rattle.device.proofs.WaitLaws.{here-lies, sends-own}
 use borrow.Author.Needs.{needs}
 use Rattle.device.proofs.step.test.Statement.{statement}
@@ -45,16 +45,33 @@ lies c =
     let (ts, read, same) = surveyed c in
     here-lies (a .job .now) ts read (transactionOf (a .step)) same
 
+-- the way was asked whether it can cut the job
+asked : (c : tie.After-cuts-all) →
+    let k = c .before .before in
+    let a = k .before .before .before .before .before .before .before .before .before .before .args in
+    c .cuts-all .result ≡ cutsAll (a .settings .way) (surveyed k .0)
+asked c =
+    let k = c .before .before in
+    let (ts, read, _) = surveyed k in
+    c .cuts-all .ensures ∙ rw read
+
+-- it can
+cut : (c : tie.Else4) →
+    let k = c .before .before .before in
+    let a = k .before .before .before .before .before .before .before .before .before .before .args in
+    cutsAll (a .settings .way) (surveyed k .0) ≡ true
+cut c = sym (asked (c .before)) ∙ not-false _ (c .if4 .left)
+
 -- so its place was looked for in the job
 looked : (c : tie.After-place-exists) →
-    let k = c .before .before .before .before in
+    let k = c .before .before .before .before .before .before in
     let a = k .before .before .before .before .before .before .before .before .before .before .args in
     c .place-exists .result ≡ exists (a .settings) (surveyed k .0) (a .step)
 looked c =
-    let k = c .before .before .before .before in
+    let k = c .before .before .before .before .before .before in
     let a = k .before .before .before .before .before .before .before .before .before .before .args in
     let (ts, _, same) = surveyed k in
-    c .place-exists .ensures (a .settings) ts (ap (λ found. found .count) same) (sends-own ts (a .step) _ (sym (lies k .holds) ∙ sym (c .before .part .ensures)))
+    c .place-exists .ensures ts (ap (λ found. found .count) same) (sends-own ts (a .step) _ (sym (lies k .holds) ∙ sym (c .before .part .ensures)))
 
 settings-in-range-requires : tie.Need-settings-in-range-requires
 settings-in-range-requires c κs = search needs
@@ -94,27 +111,40 @@ returns-4 c =
     let malformed = map-refused _ (decode _) _ (sym (w .survey .ensures) ∙ told) in
     rw (tested-malformed _ _ _ _ (ranged (e .before .before .before)) (kept (e .before)) (e .if3 .left) _ malformed) told
 
+cuts-all-requires : tie.Need-cuts-all-requires
+cuts-all-requires c κs = search needs
+
+returns-5 : tie.Need-returns-5
+returns-5 c =
+    let k = c .before .before .before in
+    let e = k .before .before .before .before in
+    let (ts, read, _) = surveyed k in
+    let uncut = sym (asked (c .before)) ∙ not-true _ (c .if4 .taken) in
+    rw (tested-uncut _ _ _ _ (ranged (e .before .before .before)) (kept (e .before)) (e .if3 .left) ts read uncut)
+
 part-requires : tie.Need-part-requires
-part-requires c κs = lies (c .before .before) .inside
+part-requires c κs = lies (c .before .before .before .before) .inside
 
 place-exists-requires : tie.Need-place-exists-requires
 place-exists-requires c κs = search needs
 
-returns-5 : tie.Need-returns-5
-returns-5 c =
-    let k = c .before .before .before .before .before in
-    let e = k .before .before .before .before in
-    let (ts, read, _) = surveyed k in
-    let off = sym (looked (c .before)) ∙ not-true _ (c .if4 .taken) in
-    rw (tested-nowhere _ _ _ _ (ranged (e .before .before .before)) (kept (e .before)) (e .if3 .left) ts read off)
-
 returns-6 : tie.Need-returns-6
 returns-6 c =
-    let k = c .before .before .before .before .before in
+    let d = c .before .before .before .before in
+    let k = d .before .before .before in
+    let e = k .before .before .before .before in
+    let (ts, read, _) = surveyed k in
+    let off = sym (looked (c .before)) ∙ not-true _ (c .if5 .taken) in
+    rw (tested-nowhere _ _ _ _ (ranged (e .before .before .before)) (kept (e .before)) (e .if3 .left) ts read (cut d) off)
+
+returns-7 : tie.Need-returns-7
+returns-7 c =
+    let d = c .before .before .before .before in
+    let k = d .before .before .before in
     let e = k .before .before .before .before in
     let (ts, read, same) = surveyed k in
-    let on = sym (looked (c .before)) ∙ not-false _ (c .if4 .left) in
-    rw (tested-there _ _ _ _ (ranged (e .before .before .before)) (kept (e .before)) (e .if3 .left) ts read on) (sym (ap done same))
+    let on = sym (looked (c .before)) ∙ not-false _ (c .if5 .left) in
+    rw (tested-there _ _ _ _ (ranged (e .before .before .before)) (kept (e .before)) (e .if3 .left) ts read (cut d) on) (sym (ap done same))
 
 pub test-spec : {M : Type 1} → statement M
 test-spec =
@@ -130,7 +160,9 @@ test-spec =
     enum-known-surveyed
     enum-told
     returns-4
+    cuts-all-requires
+    returns-5
     part-requires
     place-exists-requires
-    returns-5
-    returns-6)
+    returns-6
+    returns-7)

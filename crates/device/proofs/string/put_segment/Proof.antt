@@ -1,4 +1,4 @@
--- `put_segment` meets its contract: the block of a legal transaction is written, and put out with parity.
+-- `put_segment` meets its contract: the block of a legal transaction that can be cut is written, and put out with parity.
 use mathlib.Core.Path.{_≡_, sym}
 use Prim.Native.Nat.{_≤_}
 use lib.ListN.{length, take}
@@ -6,8 +6,9 @@ use lib.Seq.{length-take-le}
 use Rattle.line.specs.Answer.{done}
 use Rattle.line.proofs.LaidLaws.{laid-start, laid-within, laid-never, laid-counted}
 use Rattle.block.specs.Segments.{segmentBlock}
-use Rattle.segmentation.specs.Segmentation.{segmentAt, writeSegment}
-use Rattle.segmentation.proofs.SegmentationLaws.{segment-short, segment-seven, segment-written}
+use Rattle.block.proofs.SegmentsLaws.{joins-short, joins-seven}
+use Rattle.segmentation.specs.Segmentation.{segmentAtBy, writeSegment}
+use Rattle.segmentation.proofs.SegmentationByLaws.{by-joins, by-written}
 use native.Mathlib.Omega.{arith}
 use borrow.Author.Needs.{needs}
 use Rattle.device.proofs.string.put_segment.Statement.{statement}
@@ -15,16 +16,16 @@ use Rattle.device.proofs.string.put_segment.Tie as tie
 
 -- it is written
 writes : (s : tie.Start) →
-    writeSegment (s .args .info .now) (s .args .index) 256 ≡ done (segmentBlock (segmentAt (s .args .info .now) (s .args .index)))
-writes s = segment-written _ (s .args .index) (s .pre .0) (s .pre .1)
+    writeSegment (s .args .way) (s .args .info .now) (s .args .index) 256 ≡ done (segmentBlock (segmentAtBy (s .args .way) (s .args .info .now) (s .args .index)))
+writes s = by-written (s .args .way) _ (s .args .index) (s .pre .0) (s .pre .1) (s .pre .2)
 
 -- it lies at the start of the memory
 lies : (c : tie.After-n) →
     let n = c .n .given .0 .0 in
     let w = c .before .before .before in
     let a = w .before .before .before .before .args in
-    let memory = w .write-segment .last .1 .1 .0 in
-    (n ≤ length memory) × (take n memory ≡ segmentBlock (segmentAt (a .info .now) (a .index)))
+    let memory = w .write-segment .last .1 .1 .1 .0 in
+    (n ≤ length memory) × (take n memory ≡ segmentBlock (segmentAtBy (a .way) (a .info .now) (a .index)))
 lies c =
     let w = c .before .before .before in
     let laid = laid-counted (writes (w .before .before .before .before)) (w .write-segment .ensures) (c .n .given .1) in
@@ -57,8 +58,8 @@ put-text-requires : tie.Need-put-text-requires
 put-text-requires c κs =
     let d = c .before .before .before in
     let s = d .before .before .before .before .before .before .before in
-    let t = s .args .info .now in
-    rw (lies d .1) (segment-seven t (s .args .index) (s .pre .0) (s .pre .1), omega (arith, segment-short t (s .args .index) (s .pre .1)))
+    let joins = by-joins (s .args .way) (s .args .info .now) (s .pre .0) in
+    rw (lies d .1) (joins-seven joins (s .args .index) (s .pre .2), omega (arith, joins-short joins (s .args .index) (s .pre .2)))
 
 same-length : tie.Need-same-length
 same-length c = search needs

@@ -6,24 +6,26 @@ use lib.ListN.{length}
 use Rattle.line.specs.Test.{all}
 use Rattle.line.specs.Transaction.{legal}
 use Rattle.line.proofs.LaidLaws.{laid-none}
-use Rattle.segmentation.specs.Segmentation.{segmentation}
+use Rattle.segmentation.specs.Segmentation.{cuttable, segmentationBy}
 use Rattle.device.specs.Reaction.{segmentsOf}
-use Rattle.device.proofs.WaitLaws.{waits-parts}
+use Rattle.device.proofs.WaitLaws.{waits-cut, waits-parts}
 use native.Mathlib.Omega.{arith}
 use borrow.Author.Needs.{needs}
 use Rattle.device.proofs.string.put_string.Statement.{statement}
 use Rattle.device.proofs.string.put_string.Tie as tie
 
--- the transaction that is sent is legal, and has the block
+-- the transaction that is sent is legal, can be cut, and has the block
 placed : (c : tie.After-step) →
     let t = c .before .before .before .before .before .args .info .now in
-    (legal t ≡ true) × (c .step .given .0 .0 .block < length (segmentation t))
+    let way = c .before .before .before .before .before .args .settings .way in
+    (legal t ≡ true) × (cuttable way t ≡ true) × (c .step .given .0 .0 .block < length (segmentationBy way t))
 unfolding segmentsOf
 placed c =
     let s = c .before .before .before .before .before in
     let (job, waits) = s .pre .1 in
-    let (_, good, block) = waits-parts (s .args .settings) job (c .step .given .0 .0) (s .args .info .now) (rw (c .step .given .1) at waits) in
-    (good, block)
+    let sends = rw (c .step .given .1) at waits in
+    let (_, good, block) = waits-parts (s .args .settings) job (c .step .given .0 .0) (s .args .info .now) sends in
+    (good, waits-cut (s .args .settings) job (c .step .given .0 .0) (s .args .info .now) sends, block)
 
 enum-told : tie.Need-enum-told
 enum-told c = search needs
@@ -46,8 +48,8 @@ enum-known-step c = search needs
 
 put-segment-requires : tie.Need-put-segment-requires
 put-segment-requires c κs =
-    let (good, block) = placed (c .before .before) in
-    (good, block, omega arith)
+    let (good, cut, block) = placed (c .before .before) in
+    (good, cut, block, omega arith)
 
 enum-told-3 : tie.Need-enum-told-3
 enum-told-3 c = search needs
