@@ -26,7 +26,7 @@ ghost use Rattle.segmentation.specs.Segmentation.{behind, blockCount, cu
 ghost use Rattle.segmentation.specs.declared.way.Way.the-variants.{Filled, WholeFields};
 
 // Room for the blocks of every transaction whose fields are kept whole: 15 blocks.
-const ALL_BLOCKS: usize = 2090;
+pub const ALL_BLOCKS: usize = 2090;
 
 // Room for every block.
 const LONGEST: usize = INFORMATION + OVERHEAD;

@@ -6,6 +6,7 @@ ghost use Prim.Native.Nat.{min};
 ghost use lib.ListN.{length};
 ghost use Rattle.segmentation.specs.Segmentation.{complete, cutBy, cuttable, fieldsWithin};
 
+// How a transaction is cut into blocks.
 pub enum Way {
     // Each block is filled, and the rest is put in the last.
     Filled,
@@ -48,6 +49,7 @@ pub(crate) fn next_length(way: Way, rest: &[u8]) -> usize
         Way::Filled => within(rest),
         Way::WholeFields => {
             let n = complete_fields(rest);
+            // A field too long: the transaction is refused before it is cut.
             if n == 0 {
                 return within(rest);
             }
