@@ -49,8 +49,8 @@ next (d ∷ ds) = d
 
 -- ── Both ends ──
 
--- what a run takes: the job, the device's settings (its password, D), the central's rules (its password, L, C, the pager
--- list, its journal's room), and the starting journal (R-10.1)
+-- what a run takes: the job, the device's settings (its password, D, its way of cutting), the central's rules (its password,
+-- L, C, the pager list, its journal's room), and the starting journal (R-10.1)
 pub record Inputs (J : Type 0) : Type 0 where
   pub job : List (List ℕ)
   pub device : Settings
