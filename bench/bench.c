@@ -82,7 +82,7 @@ static tyntolai_password side_password(const twin_password *p) {
 }
 
 static tyntolai_device_settings side_device(const twin_device_settings *s) {
-    return (tyntolai_device_settings){side_password(&s->password), s->retries, s->way};
+    return (tyntolai_device_settings){side_password(&s->password), s->retries, s->way, s->confirmation};
 }
 
 static tyntolai_central_settings side_central(const twin_central_settings *s) {
@@ -166,10 +166,10 @@ static void device_step(const char *name, int starts, twin_device *s, twin_given
                        starts ? tyntolai_device_start(settings, job, n, out, room)
                               : tyntolai_device_step(state, settings, job, n, reply, reply_length, out, room))
     *s = (twin_device){r.state.step, r.state.transaction, r.state.block, r.state.attempts};
-    *g = (twin_given){r.verdict, r.transaction, r.report};
+    *g = (twin_given){r.verdict, r.transaction, r.report, r.standing};
     tyntolai_answer a = r.answer;
 #else
-    *g = (twin_given){0, 0, 0};
+    *g = (twin_given){0, 0, 0, 0};
     MEASURED(name, twin_answer a = starts ? twin_device_start(s, t, job, n, out, room)
                                           : twin_device_step(s, g, t, job, n, reply, reply_length, out, room))
 #endif
@@ -181,6 +181,7 @@ static void device_step(const char *name, int starts, twin_device *s, twin_given
     mix_number(g->verdict);
     mix_number(g->transaction);
     mix_number(g->report);
+    mix_number(g->standing);
     mix(out, 300);
     report(name, a.code, a.count);
     code = a.code;
@@ -316,8 +317,8 @@ static size_t make_block(uint8_t *to, const uint8_t *info, size_t n, uint8_t end
     return n + 6;
 }
 
-static const twin_device_settings device = {{"SECRET", 6}, 2, TWIN_FILLED};
-static const twin_device_settings whole_device = {{"SECRET", 6}, 2, TWIN_WHOLE_FIELDS};
+static const twin_device_settings device = {{"SECRET", 6}, 2, TWIN_FILLED, TWIN_EARLY};
+static const twin_device_settings whole_device = {{"SECRET", 6}, 2, TWIN_WHOLE_FIELDS, TWIN_EARLY};
 static const twin_central_settings central = {{"SECRET", 6}, 2000, 2};
 static uint32_t pagers[1000];
 static uint8_t journal[BUFFER], job[BUFFER], verdicts[64];
@@ -488,6 +489,9 @@ static void measure_devices(void) {
     measure_device("NAK, again", late, "\r\x15\r", 3, 16, 1998);
     measure_whole_device((twin_device){TWIN_SENDING, 0, 0, 1}, 1, 2000);
     measure_whole_device((twin_device){TWIN_SENDING, 8, 3, 1}, 16, 1998);
+    for (size_t i = 0; i < sizeof verdicts; i++) verdicts[i] = (uint8_t)(1 + i % 5);
+    ANSWERED("settle, 64 verdicts in doubt", SIDE(settle)(TWIN_IN_DOUBT, verdicts, sizeof verdicts), verdicts,
+             sizeof verdicts);
 }
 
 static void measure_run(const char *what, const twin_device_settings *d, size_t records, size_t length) {
@@ -599,11 +603,11 @@ static twin_password any_password(void) {
     return p;
 }
 
-// A way, or now and then a number that is none.
-static uint8_t any_way(void) { return (uint8_t)(rarely() ? below(4) : below(2)); }
+// One of two, or now and then a number that is neither: a way, a confirmation.
+static uint8_t any_choice(void) { return (uint8_t)(rarely() ? below(4) : below(2)); }
 
 static twin_device_settings any_device_settings(void) {
-    return (twin_device_settings){any_password(), rarely() ? below(12) : below(4), any_way()};
+    return (twin_device_settings){any_password(), rarely() ? below(12) : below(4), any_choice(), any_choice()};
 }
 
 static twin_central_settings any_central_settings(void) {
@@ -726,7 +730,7 @@ static void random_characters(size_t calls) {
     summed("block read");
     for (size_t i = 0; i < calls; i++, seen[code]++) {
         size_t n = any_transaction(text, 2000);
-        uint8_t way = any_way();
+        uint8_t way = any_choice();
         size_t room = any_room(way == TWIN_FILLED ? n + 6 * ((n + 249) / 250) : 2090);
         ANSWERED(NULL, SIDE(write_segments)(way, text, n, out, room), out, sizeof out);
     }
@@ -815,6 +819,13 @@ static void random_devices(size_t calls) {
         device_step(NULL, starts, &s, &given, &t, job, n, reply, m, room);
     }
     summed("device step");
+    for (size_t i = 0; i < calls; i++, seen[code]++) {
+        size_t m = below(sizeof verdicts + 1);
+        for (size_t k = 0; k < sizeof verdicts; k++) verdicts[k] = (uint8_t)below(rarely() ? 256 : 7);
+        ANSWERED(NULL, SIDE(settle)((uint8_t)(rarely() ? below(256) : below(3)), verdicts, m), verdicts,
+                 sizeof verdicts);
+    }
+    summed("settle");
 }
 
 static void random_runs(size_t calls) {

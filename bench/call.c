@@ -19,7 +19,7 @@ int main(void) {
     static uint8_t job[TYNTOLAI_BUFFER], journal[TYNTOLAI_BUFFER]; // empty journals: four zeros
     static const uint8_t stored[14] = {0x31, 0x32, 0x33, 0x0D, 0x41, 0x42, 0x43, 0x0D, 0, 8, 0, 1, 0, 10};
     const uint32_t pagers[1] = {123};
-    const tyntolai_device_settings device_settings = {{"SECRET", 6}, 2, TYNTOLAI_FILLED};
+    const tyntolai_device_settings device_settings = {{"SECRET", 6}, 2, TYNTOLAI_FILLED, TYNTOLAI_EARLY};
     const tyntolai_central_settings central_settings = {{"SECRET", 6}, 2000, 2};
     uint8_t string[TYNTOLAI_STRING], block[TYNTOLAI_STRING], answer[TYNTOLAI_ANSWER], pending[TYNTOLAI_PENDING];
     uint8_t verdicts[2] = {TYNTOLAI_UNSENT, TYNTOLAI_UNSENT};
@@ -56,12 +56,16 @@ int main(void) {
                                       heard.answer.count, string, sizeof string);
         if (device.answer.code != 0) return wrong("a step of the device");
         if (device.verdict != 0) verdicts[device.transaction] = device.verdict;
+        if (device.standing != TYNTOLAI_STANDING_OPEN) tyntolai_settle(device.standing, verdicts, sizeof verdicts);
     }
     print("verdicts", verdicts, sizeof verdicts);
     print("journal", journal, central.journal);
     if (verdicts[0] != TYNTOLAI_ACCEPTED || verdicts[1] != TYNTOLAI_REJECTED) return wrong("the verdicts");
     if (central.journal != sizeof stored || memcmp(journal, stored, sizeof stored) != 0) return wrong("the journal");
-    if (device.state.step != TYNTOLAI_STOPPED || device.report != 1 + TYNTOLAI_EOT) return wrong("the close");
+    if (device.state.step != TYNTOLAI_STOPPED || device.report != 1 + TYNTOLAI_EOT ||
+        device.standing != TYNTOLAI_STANDING_CONFIRMED) {
+        return wrong("the close");
+    }
 
     // Memory of another size is no part of a state. The line is dropped, and the central waits for the next call.
     if (tyntolai_central_hang_up(central, central_settings, pending, sizeof pending - 1).answer.code != 9 ||
@@ -84,8 +88,8 @@ int main(void) {
 
     // With whole fields these pages take a block each too, and all goes the same. A number that is no way is refused.
     static uint8_t whole[TYNTOLAI_BUFFER];
-    const tyntolai_device_settings whole_fields = {{"SECRET", 6}, 2, TYNTOLAI_WHOLE_FIELDS};
-    const tyntolai_device_settings no_way = {{"SECRET", 6}, 2, 2};
+    const tyntolai_device_settings whole_fields = {{"SECRET", 6}, 2, TYNTOLAI_WHOLE_FIELDS, TYNTOLAI_EARLY};
+    const tyntolai_device_settings no_way = {{"SECRET", 6}, 2, 2, TYNTOLAI_EARLY};
     totals = tyntolai_run(job, length.count, whole_fields, central_settings, pagers, 1, whole, sizeof whole, 4, string,
                           0, given, sizeof given);
     if (totals.code != 0 || totals.transmissions != transmissions || memcmp(whole, journal, sizeof whole) != 0) {
@@ -96,6 +100,24 @@ int main(void) {
     if (totals.code != 9 || memcmp(whole, journal, sizeof whole) != 0) return wrong("the run in no way");
     device = tyntolai_device_start(no_way, job, length.count, string, sizeof string);
     if (device.answer.code != 9 || device.state.step != TYNTOLAI_STOPPED) return wrong("the start in no way");
+
+    // Late, where the answer to the close is lost (fault 2): the page that was accepted is in doubt. A number that is
+    // neither early nor late is refused, and so is one that is no standing.
+    static uint8_t last[TYNTOLAI_BUFFER];
+    const tyntolai_device_settings late = {{"SECRET", 6}, 2, TYNTOLAI_FILLED, TYNTOLAI_LATE};
+    const tyntolai_device_settings neither = {{"SECRET", 6}, 2, TYNTOLAI_FILLED, 2};
+    uint8_t faults[5] = {0, 0, 0, 0, 2};
+    totals = tyntolai_run(job, length.count, late, central_settings, pagers, 1, last, sizeof last, 4, faults,
+                          sizeof faults, given, sizeof given);
+    if (totals.code != 0 || totals.transmissions != sizeof faults || memcmp(last, journal, sizeof last) != 0 ||
+        given[0] != TYNTOLAI_IN_DOUBT || given[1] != TYNTOLAI_REJECTED) {
+        return wrong("the late run");
+    }
+    device = tyntolai_device_start(neither, job, length.count, string, sizeof string);
+    if (device.answer.code != 9 || device.state.step != TYNTOLAI_STOPPED) return wrong("neither early nor late");
+    if (tyntolai_settle(3, verdicts, sizeof verdicts).code != 9 || verdicts[0] != TYNTOLAI_ACCEPTED) {
+        return wrong("settling by no standing");
+    }
     printf("%zu transmissions: as it should be\n", transmissions);
     return 0;
 }

@@ -389,7 +389,8 @@ static int password_in_range(const twin_password *p) {
 }
 
 static int device_in_range(const twin_device_settings *s) {
-    return s->way <= TWIN_WHOLE_FIELDS && password_in_range(&s->password) && s->retries <= 9;
+    return s->way <= TWIN_WHOLE_FIELDS && s->confirmation <= TWIN_LATE && password_in_range(&s->password) &&
+           s->retries <= 9;
 }
 
 static int central_in_range(const twin_central_settings *s) {
@@ -694,13 +695,25 @@ twin_answer twin_device_step(twin_device *s, twin_given *given, const twin_devic
                              uint8_t *out, size_t room) {
     size_t count, blocks;
     part here, next;
-    *given = (twin_given){0, 0, 0};
+    *given = (twin_given){0, 0, 0, TWIN_OPEN};
     uint8_t wrong = test_device(s, settings, job, n, room, &count, &blocks, &here, &next);
     if (wrong) return refused(wrong);
     size_t before = s->step == TWIN_SENDING ? s->transaction : 0;
+    int went_on = s->step != TWIN_STOPPED;
     move(s, given, settings->retries + 1, count, blocks, twin_read_reply(reply, reply_length));
     size_t after = s->step == TWIN_SENDING ? s->transaction : 0;
+    if (went_on && s->step == TWIN_STOPPED)
+        given->standing =
+            settings->confirmation == TWIN_EARLY || given->report == 1 + TWIN_EOT ? TWIN_CONFIRMED : TWIN_IN_DOUBT;
     return done(put_string(s, settings, before == after ? here : next, out));
+}
+
+twin_answer twin_settle(uint8_t standing, uint8_t *verdicts, size_t n) {
+    if (standing > TWIN_IN_DOUBT) return refused(9);
+    if (standing == TWIN_IN_DOUBT)
+        for (size_t i = 0; i < n; i++)
+            if (verdicts[i] == 1) verdicts[i] = 6;
+    return done(n);
 }
 
 // ---- the run
@@ -718,7 +731,7 @@ twin_totals twin_run(const uint8_t *job, size_t n, const twin_device_settings *d
     uint8_t string[256], answer[7];
     twin_device d;
     twin_central c;
-    twin_given given;
+    twin_given given = {0, 0, 0, TWIN_OPEN};
     size_t sent = 0;
     if (!device_in_range(device) || !central_in_range(central) || !pagers_in_range(pagers, pager_count)) {
         return (twin_totals){0, 0, 9};
@@ -745,5 +758,6 @@ twin_totals twin_run(const uint8_t *job, size_t n, const twin_device_settings *d
         count = twin_device_step(&d, &given, device, job, n, answer, back, string, sizeof string).count;
         if (given.verdict) verdicts[given.transaction] = given.verdict;
     }
+    twin_settle(given.standing, verdicts, verdict_count);
     return (twin_totals){sent, c.journal, 0};
 }

@@ -19,11 +19,13 @@ typedef struct {
 } twin_password;
 
 enum { TWIN_FILLED, TWIN_WHOLE_FIELDS };
+enum { TWIN_EARLY, TWIN_LATE };
 
 typedef struct {
     twin_password password;
     size_t retries;
     uint8_t way;
+    uint8_t confirmation;
 } twin_device_settings;
 
 typedef struct {
@@ -39,12 +41,15 @@ typedef struct {
     size_t transaction, block, attempts;
 } twin_device;
 
-// What a step of the device gives: a verdict (0: none) on a transaction, and the closing reply
-// (0: none, else 1 plus its number).
+enum { TWIN_OPEN, TWIN_CONFIRMED, TWIN_IN_DOUBT };
+
+// What a step of the device gives: a verdict (0: none) on a transaction, the closing reply
+// (0: none, else 1 plus its number), and how the accepted verdicts stand.
 typedef struct {
     uint8_t verdict;
     size_t transaction;
     uint8_t report;
+    uint8_t standing;
 } twin_given;
 
 enum { TWIN_IDLE, TWIN_LOGON, TWIN_BLOCK, TWIN_CLOSED };
@@ -93,6 +98,7 @@ twin_answer twin_device_start(twin_device *state, const twin_device_settings *se
 twin_answer twin_device_step(twin_device *state, twin_given *given, const twin_device_settings *settings,
                              const uint8_t *job, size_t n, const uint8_t *reply, size_t reply_length,
                              uint8_t *out, size_t room);
+twin_answer twin_settle(uint8_t standing, uint8_t *verdicts, size_t n);
 twin_totals twin_run(const uint8_t *job, size_t n, const twin_device_settings *device,
                      const twin_central_settings *central, const uint32_t *pagers, size_t pager_count,
                      uint8_t *journal, size_t size, size_t length, const uint8_t *faults,

@@ -177,11 +177,17 @@ tyntolai_central_stepped tyntolai_central_hang_up(tyntolai_central_state state, 
 
 // ---- The entry device
 
-// The retry limit is 0 to 9, the way of cutting TYNTOLAI_FILLED (0) or TYNTOLAI_WHOLE_FIELDS (1).
+// When an accepted verdict stands. Early: as soon as it is given. Late, for centrals that say no at the close:
+// once the close is answered with ESC EOT; any other stop puts it in doubt.
+enum { TYNTOLAI_EARLY = 0, TYNTOLAI_LATE = 1 };
+
+// The retry limit is 0 to 9, the way of cutting TYNTOLAI_FILLED (0) or TYNTOLAI_WHOLE_FIELDS (1), the
+// confirmation TYNTOLAI_EARLY (0) or TYNTOLAI_LATE (1).
 typedef struct {
     tyntolai_password password;
     size_t retries;
     uint8_t way;
+    uint8_t confirmation;
 } tyntolai_device_settings;
 
 enum {
@@ -206,17 +212,25 @@ enum {
     TYNTOLAI_REJECTED = 2,
     TYNTOLAI_UNCONFIRMED = 3,
     TYNTOLAI_DEFERRED = 4,
-    TYNTOLAI_UNSENT = 5
+    TYNTOLAI_UNSENT = 5,
+    TYNTOLAI_IN_DOUBT = 6 // no step gives it: accepted ones come to it at the stop
 };
 
-// The verdict that a step gives (0: none) and on which transaction; and the reply to the close
-// (0: this step reports none; else 1 plus its number, so that silence and what is not recognized are 1).
+// How the accepted verdicts of a call stand. Open: nothing is said of them, the call goes on or was over
+// before. Confirmed: they stay accepted. In doubt: each becomes TYNTOLAI_IN_DOUBT.
+enum { TYNTOLAI_STANDING_OPEN = 0, TYNTOLAI_STANDING_CONFIRMED = 1, TYNTOLAI_STANDING_IN_DOUBT = 2 };
+
+// The verdict that a step gives (0: none) and on which transaction; the reply to the close
+// (0: this step reports none; else 1 plus its number, so that silence and what is not recognized are 1);
+// and how the accepted verdicts stand. A driver keeps the verdicts given, and at the step that stops,
+// which says confirmed or in doubt, calls tyntolai_settle on them.
 typedef struct {
     tyntolai_answer answer;
     tyntolai_device_state state;
     uint8_t verdict;
     size_t transaction;
     uint8_t report;
+    uint8_t standing;
 } tyntolai_device_stepped;
 
 // The start of a call for a job lent at its exact length: count bytes of the first string go to out
@@ -230,6 +244,10 @@ tyntolai_device_stepped tyntolai_device_step(tyntolai_device_state state, tyntol
                                              const uint8_t *job, size_t job_length, const uint8_t *reply,
                                              size_t reply_length, uint8_t *out, size_t room);
 
+// Settles verdicts, a byte each, by a step's standing: in doubt, every TYNTOLAI_ACCEPTED becomes
+// TYNTOLAI_IN_DOUBT; no other byte ever changes. Count is verdict_count. Refusal 9 (standing).
+tyntolai_answer tyntolai_settle(uint8_t standing, uint8_t *verdicts, size_t verdict_count);
+
 // ---- A whole call
 
 // The strings that the device put out, and the journal's new length.
@@ -241,7 +259,7 @@ typedef struct {
 
 // Runs a job against the central. A fault for each transmission, 0 to 8: 3 times what becomes of the
 // string plus what becomes of its answer (0 whole, 1 garbled, 2 lost); past the list all is whole. One
-// byte of verdict for each transaction. Refusals 9, 1, 7, 2 (as the device), 1 (verdicts).
+// byte of verdict for each transaction, settled. Refusals 9, 1, 7, 2 (as the device), 1 (verdicts).
 tyntolai_totals tyntolai_run(const uint8_t *job, size_t job_length, tyntolai_device_settings device,
                              tyntolai_central_settings central, const uint32_t *pagers, size_t pager_count,
                              uint8_t *journal, size_t size, size_t journal_length, const uint8_t *faults,

@@ -2,13 +2,14 @@
 """Writes crates/vectors/stdin and stdout: calls, and what documents 01 and 02 say comes of each; and the same of the lines that crates/blocks reads.
 
 The answers come from a model of document 01 that is written here in Python, from the paper and not from the Rattle sources, and from the
-numbers that the paper prints, which are asserted below, as demand 3 is of every run. Seven parts are younger, and by people who knew the Rattle sources:
+numbers that the paper prints, which are asserted below, as demand 3 is of every run. Eight parts are younger, and by people who knew the Rattle sources:
 the walk of a journal, single steps from saved states, two decisions that the model followed (hanging up tests no pager list; the index of a block of whole fields is
-tested last), and of document 02 the framer and the cutting into whole fields, which are both written twice here, and sums that are added to. Of those it is a second
-writing and no second opinion. The program `vectors` makes the calls on the proved functions; the gate compares.
+tested last), and of document 02 the framer, the cutting into whole fields and the late no, which are all written twice here, and sums that are added to. Of those it is a
+second writing and no second opinion. The program `vectors` makes the calls on the proved functions; the gate compares.
 
 A line of stdin is a call: a letter, then arguments with a space before each. Bytes are hex pairs; `*` and four hex digits behind a pair repeat it;
-no bytes are `-`. A number is bytes too, high first. A capital letter makes the call of the small one, and cuts into whole fields.
+no bytes are `-`. A number is bytes too, high first. A capital letter makes the call of the small one, and cuts into whole fields; a letter with bit 7 set, written
+as a hex pair, makes the call of the one without it, with a device that confirms late.
 """
 import functools, itertools, os, random, re, typing
 
@@ -41,6 +42,12 @@ def number(n):
 
 def plain(b):
     return "".join("%02x" % x for x in b) or "-"
+
+
+def named(op, whole, late):
+    """The letter of a call whose device cuts into whole fields, or confirms late."""
+    code = ord(op) - 0x20 * whole + 0x80 * late
+    return "%02x" % code if late else chr(code)
 
 
 def call(op, *args, answer):
@@ -763,10 +770,10 @@ def play(password, retries, job, lines, whole):
     return ", ".join(out)
 
 
-def e(password, retries, job, *texts, whole=False):
+def e(password, retries, job, *texts, whole=False, late=False):
     """Replies played to the device from its start; texts get parity, lines given as bytes in a list do not."""
     lines = [x[0] if isinstance(x, list) else bytes(map(with_parity, x)) for x in texts]
-    call("E" if whole else "e", hexed(password), number(retries), hexed(job), *[hexed(x) for x in lines], answer=lambda: play(password, retries, job, lines, whole))
+    call(named("e", whole, late), hexed(password), number(retries), hexed(job), *[hexed(x) for x in lines], answer=lambda: play(password, retries, job, lines, whole))
 
 
 def device(rng):
@@ -882,11 +889,11 @@ def replayed(password, retries, job, step, place, attempts, room, lines, whole):
     return "%s, %s %s" % (", ".join(said), step if step == "stopped" else "%s %d %d %d" % (step, *place, attempts), digest(out))
 
 
-def g(*texts, password=b"", retries=1, job, step="sending", place=(0, 0), attempts=1, room=256, whole=False):
+def g(*texts, password=b"", retries=1, job, step="sending", place=(0, 0), attempts=1, room=256, whole=False, late=False):
     """Steps of the entry device from a saved state; room is the output's size."""
     lines = [x[0] if isinstance(x, list) else bytes(map(with_parity, x)) for x in texts]
     assert room <= 512  # what the program has room for
-    call("G" if whole else "g", hexed(password), number(retries), hexed(job), "x" if step == "stopped" else step[0], number(place[0]), number(place[1]), number(attempts), number(room),
+    call(named("g", whole, late), hexed(password), number(retries), hexed(job), "x" if step == "stopped" else step[0], number(place[0]), number(place[1]), number(attempts), number(room),
          *[hexed(x) for x in lines], answer=lambda: replayed(password, retries, job, step, place, attempts, room, lines, whole))
 
 
@@ -975,7 +982,7 @@ def device_steps(rng):
 # ── the run ──
 class Run(typing.NamedTuple):
     """What a run takes: the job, the faults, the device's settings, the central's, how the journal's buffer begins and its size, the journal's length in
-    it, the size of the verdict buffer, and whether the device cuts into whole fields."""
+    it, the size of the verdict buffer, and whether the device cuts into whole fields, and confirms late."""
     job: bytes
     faults: tuple
     password: bytes
@@ -986,6 +993,7 @@ class Run(typing.NamedTuple):
     length: int
     room: int
     whole: bool = False
+    late: bool = False
 
     def buffer(self):
         return self.begin[:self.size].ljust(self.size, b"\0")
@@ -999,8 +1007,8 @@ def arrives(string, fate):
     return [string, bytes(x ^ 0x80 for x in string[:1]) + string[1:], b""][fate]
 
 
-def run(r):
-    """The number of transmissions, the verdicts, and the journal at the end."""
+def played(r):
+    """The number of transmissions, the verdicts as they were given, the journal at the end, and what the last step gave or reported."""
     central = Central(*r.central, r.journal())
     settings(r.password, r.retries)
     central.settings()
@@ -1019,12 +1027,18 @@ def run(r):
     verdicts, sent = [5] * r.room, 0
     while string := device.string():
         fault = r.faults[sent] if sent < len(r.faults) else 0
-        sent += 1
+        sent, closing = sent + 1, device.step == "closing"
         given = device.take(arrives(central.step(arrives(string, fault // 3)), fault % 3))
         if "=" in given:
             t, v = given.split("=")
             verdicts[int(t)] = int(v)
-    return sent, verdicts, central.journal
+    assert (given == "closed eot") == (closing and central.stage == "closed" and fault % 3 == 0)  # as the central sees it
+    return sent, verdicts, central.journal, given
+
+
+def run(r):
+    """The same without the last: what demand 3 speaks of, whether the device confirms late or not."""
+    return played(r)[:3]
 
 
 def clean(r):
@@ -1058,22 +1072,40 @@ def demand(r, sent, verdicts, journal):
         assert run(higher)[1][:k] == verdicts[:k]
 
 
-def u(job, faults=(), password=b"", retries=3, host=b"", longest=2000, limit=3, pagers=(123,), begin=encode([]), size=32004, length=None, room=None, whole=False):
+def stands(said, late):
+    """How the taken stand at a stop (document 02, wish 4), `c` confirmed or `d` in doubt; said is what the step to the stop gave or reported."""
+    return "c" if said == "closed eot" or not late else "d"
+
+
+def settle(standing, verdicts):
+    return [6 if v == 1 and standing == "d" else v for v in verdicts]
+
+
+def final(r, verdicts, last):
+    """The verdicts of a run as it writes them, settled at its stop; and what wish 4 says of them."""
+    told, out = clean(r)[0], settle(stands(last, r.late), verdicts)
+    assert all(v == t for v, t in zip(out, told) if v in (1, 2))  # a final taken or refused is the clean one
+    assert [1 if v == 6 else v for v in out] == verdicts and not {1, 6} <= set(out) and (r.late or out == verdicts)
+    return out
+
+
+def u(job, faults=(), password=b"", retries=3, host=b"", longest=2000, limit=3, pagers=(123,), begin=encode([]), size=32004, length=None, room=None, whole=False, late=False):
     """A run, its job given as transactions or as bytes; host and limit are the central's password and retry limit. The verdicts and the journal at its
     end, or None where it is refused."""
     assert len(faults) <= 64 and len(pagers) <= 8  # what the program has room for
     length, room = len(begin) if length is None else length, len(job) if room is None else room
     job = job if isinstance(job, bytes) else encode(job)
-    r = Run(job, tuple(faults), password, retries, (host, longest, limit, pagers), begin, size, length, room, whole)
+    r = Run(job, tuple(faults), password, retries, (host, longest, limit, pagers), begin, size, length, room, whole, late)
     try:
-        sent, verdicts, journal = run(r)
+        sent, verdicts, journal, last = played(r)
     except Refused as refusal:
         verdicts, journal, said, result = [0] * room, b"", "refused %s" % refusal, None
     else:
         demand(r, sent, verdicts, journal)
+        verdicts = final(r, verdicts, last)
         said, result = "%d %d" % (sent, len(journal)), (verdicts, journal)
     numbers = b"".join(x.to_bytes(4, "big") for x in pagers)
-    call("U" if whole else "u", hexed(host), number(longest), number(limit), hexed(numbers), hexed(begin), hexed(password), number(retries), number(size), number(length),
+    call(named("u", whole, late), hexed(host), number(longest), number(limit), hexed(numbers), hexed(begin), hexed(password), number(retries), number(size), number(length),
          number(room), hexed(bytes(faults)), hexed(job), answer=lambda: "%s %s %s" % (said, plain(verdicts), digest(journal + r.buffer()[len(journal):])))
     return result
 
@@ -1472,6 +1504,192 @@ def whole_runs(rng):
              limit=rng.randint(0, 3), pagers=(123, 7), begin=rng.choice((encode([]), encode([b"7\r\r"]), encode([b"\r"] * 62))))
 
 
+# ── the late no ──
+def i(standing, verdicts):
+    """A verdict buffer, or any bytes, settled."""
+    call("i", standing, hexed(verdicts), answer=lambda: plain(settle(standing, verdicts)))
+
+
+def settling(rng):
+    assert settle("d", range(256)) == [0, 6, *range(2, 256)]
+    for standing in "ocd":
+        for some in (bytes(range(256)), b"", b"\1", b"\2", b"\6", b"\1\2\3\4\5\6", b"\6\1\6\1", b"\2\1\1\3\5", b"\1\1\2\4\5\5", b"\0\1\x81\x11\xff\1\x10"):
+            i(standing, some)
+        for _ in range(4):
+            i(standing, bytes(rng.choices(b"\1\1\2\3\4\5\6", k=rng.randint(2, 12))))
+
+
+def doubted(said, n, late):
+    """The verdicts that a conversation comes to, by what it prints: those that it gave, the taken in doubt where it is over and its close was not answered with ESC EOT."""
+    given, doubt = dict(re.findall(r"(\d+)=(\d)", said)), late and said.endswith(" -") and ", closed eot -" not in said
+    return [6 if doubt and v == 1 else v for v in (int(given.get(str(t), 5)) for t in range(n))]
+
+
+def kept(job):
+    """The verdicts that a driver keeps for a job before the call."""
+    try:
+        return [5] * len(decode(job))
+    except Refused:
+        return []
+
+
+def driven(password, retries, job, lines, whole, late):
+    """How the taken stand behind each reply, `o` where nothing is said of them, or why the device does not start; and the driver's verdicts at the end."""
+    verdicts, said = kept(job), ""
+    try:
+        device = Device(password, retries, job, whole)
+    except Refused as r:
+        return "refused %s %s" % (r, plain(verdicts))
+    for line in lines:
+        over, given = device.step == "stopped", device.take(line)
+        if "=" in given:
+            t, v = given.split("=")
+            verdicts[int(t)] = int(v)
+        standing = "o" if over or device.step != "stopped" else stands(given, late)
+        said, verdicts = said + standing, settle(standing, verdicts)
+    assert re.fullmatch("o*[cd]?o*", said) and verdicts == doubted(play(password, retries, job, lines, whole), len(verdicts), late)
+    return "%s %s" % (said, plain(verdicts))
+
+
+def l(job, *texts, password=b"", retries=1, whole=False, late=False):
+    """Replies played to a driver of the device, its job given as transactions or as bytes; texts get parity, lines given as bytes in a list do not."""
+    lines = [x[0] if isinstance(x, list) else bytes(map(with_parity, x)) for x in texts]
+    job = job if isinstance(job, bytes) else encode(job)
+    assert len(lines) <= 27  # what the program has room for
+    call(named("l", whole, late), hexed(password), number(retries), hexed(job), *[hexed(x) for x in lines], answer=lambda: driven(password, retries, job, lines, whole, late))
+
+
+def two_drivers(job, *texts, **more):
+    """A driver of an early device, and one of a late: the taken alone differ, and only in doubt."""
+    l(job, *texts, **more), l(job, *texts, **more, late=True)
+    (early, given), (late, settled) = (x.rsplit(" ", 1) for x in answers[-2:])
+    doubt = late[:1] != "r" and "d" in late
+    assert early == (late.replace("d", "c") if doubt else late) and settled == (given.replace("01", "06") if doubt else given) and "6" not in given
+
+
+UP, SAID_ACK, SAID_NAK, SAID_RS, SAID_EOT, UNREAD = (b"ID=\r", b"\r\x06\r\x1b[p\r"), b"\r\x06\r", b"\r\x15\r", b"\r\x1e\r", b"\r\x1b\x04\r", [b"\x8d\x86\x8d"]
+# the replies with which a call stops, where one retry is allowed: those to the opening, to the logon, to a block, to the close
+OPENINGS = [(x,) * 3 for x in (b"", b"?", SAID_ACK, SAID_NAK, SAID_RS, SAID_EOT, UP[1])] + [(b"", SAID_EOT, UNREAD)]
+LOGONS = [(SAID_RS,), (SAID_EOT,), (SAID_ACK,), (SAID_NAK, SAID_NAK), UP[:1] * 2, (SAID_NAK, b""), (b"",), (UNREAD,)]
+BLOCKS = [(SAID_NAK, SAID_NAK), (SAID_EOT,), (SAID_NAK, SAID_EOT), (b"",), (b"?",), (UNREAD,), UP[:1], UP[1:]]
+CLOSES = [(SAID_EOT,), (SAID_RS,), (SAID_NAK, SAID_EOT), (SAID_NAK, SAID_RS), (SAID_NAK, SAID_NAK), (SAID_NAK, b""), (SAID_ACK,), UP[:1], UP[1:], (b"",), (b"?",), (UNREAD,),
+          (b"OK\r\n\x1b\x04\r\n",), (b"ID2 not known\r\x1e\r",), (b"\r\x1b\x04",), ([b"\x8d\x1b\x04\x8d"],)]
+TOLD = {"A": SAID_ACK, "R": SAID_RS}
+PAGES = [b"1\r\r", b"2\rB\r", b"3\r\r", b"4\rD\r"]
+
+
+def drivers(rng):
+    # the neighbour's central, which says ACK to everything and at the close RS; pages of one block and of several
+    long = [sized(1, 250, 1), sized(126, 126, 126)]
+    for whole in (False, True):
+        for n in range(2, 5):
+            two_drivers(PAGES[:n], *UP, *[SAID_ACK] * n, SAID_RS, whole=whole)
+        two_drivers(long, *UP, *[SAID_ACK] * (6 if whole else 4), SAID_RS, whole=whole), two_drivers(long, *UP, *[SAID_ACK] * (6 if whole else 4), SAID_EOT, whole=whole)
+    # every way to answer the close; whatever was said of up to four transactions
+    some = ("", "A", "AR", "AAR", "ARAA")
+    for end, told in itertools.product(CLOSES, some):
+        two_drivers(PAGES[:len(told)], *UP, *map(TOLD.get, told), *end)
+    for told in itertools.chain(*(map("".join, itertools.product("AR", repeat=n)) for n in range(5))):
+        if told not in some and "R" in told:
+            l(PAGES[:len(told)], *UP, *map(TOLD.get, told), SAID_EOT, late=True), two_drivers(PAGES[:len(told)], *UP, *map(TOLD.get, told), SAID_RS)
+    # every way to stop before the close
+    for end, told in itertools.product(BLOCKS, ("", "A", "AR", "ARA")):
+        two_drivers(PAGES[:max(2, len(told) + 1)], *UP, *map(TOLD.get, told), *end)
+    for n in (0, 2):
+        for end in LOGONS:
+            two_drivers(PAGES[:n], UP[0], *end)
+        for end in OPENINGS:
+            two_drivers(PAGES[:n], *end)
+    # what comes behind the stop says nothing more; nor does a call that goes on
+    for end, behind in itertools.product(((SAID_EOT,), (SAID_RS,), (b"",), (SAID_NAK, SAID_NAK)), ((SAID_EOT,) * 2, (SAID_RS, SAID_ACK, SAID_NAK), (*UP, SAID_ACK, SAID_ACK, SAID_EOT))):
+        two_drivers(PAGES[:2], *UP, SAID_ACK, SAID_RS, *end, *behind)
+    for end in BLOCKS:
+        two_drivers(PAGES[:3], *UP, SAID_ACK, *end, SAID_ACK, SAID_EOT)
+    for end in [UP[:1] + x for x in LOGONS[:4]] + OPENINGS[:2]:
+        two_drivers(PAGES[:1], *end, *UP, SAID_ACK, SAID_EOT)
+    for n in range(7):
+        two_drivers(PAGES[:3], *(b"", *UP, SAID_ACK, SAID_NAK, SAID_RS)[:n])
+    # retry limits: the last NAK, and the one before it
+    for retries, times in ((0, 0), (0, 1), (2, 2), (2, 3), (9, 9), (9, 10)):
+        two_drivers(PAGES[:1], *UP, SAID_ACK, *[SAID_NAK] * times, SAID_EOT, retries=retries)
+    # whole fields, in a page of three blocks and behind it
+    for end in CLOSES[:4] + BLOCKS[:4]:
+        two_drivers(PAGES[:1] + long[:1], *UP, *[SAID_ACK] * 4, *end, SAID_EOT, whole=True), two_drivers(PAGES[:1] + long, *UP, *[SAID_ACK] * 2, *end, whole=True)
+    # refusals
+    job = encode(PAGES[:2])
+    for whole in (False, True):
+        for wrong in (job[1:], job + b"\0", b"", [b"\r"] * 65, [b"\r", sized(251)]):
+            two_drivers(wrong, *UP, SAID_EOT, whole=whole)
+        two_drivers(job, *UP, retries=10, whole=whole), two_drivers(job[1:], *UP, retries=10, whole=whole), two_drivers(job, *UP, password=b"abcdefg", whole=whole), two_drivers(job, password=b"a b", whole=whole)
+    # all kinds
+    for _ in range(45):
+        opening, logon, end = rng.choice(((), (), (b"",), (SAID_NAK, b""))), rng.choice(((), (), (SAID_NAK,))), rng.choice((SAID_EOT, SAID_EOT, SAID_RS))
+        replies = rng.choices((SAID_ACK, SAID_RS, SAID_NAK, SAID_EOT, b"", UNREAD, *UP), (12, 6, 5, 1, 1, 1, 1, 1), k=rng.randint(1, 8))
+        two_drivers(PAGES[:rng.randint(1, 4)], *opening, UP[0], *logon, UP[1], *replies, end, retries=rng.randint(0, 2))
+
+
+def two_runs(job, faults=(), **more):
+    """A run with an early device, and one with a late: the taken alone differ. The verdicts of both."""
+    one, other = u(job, faults, **more), u(job, faults, **more, late=True)
+    early, late = (x.split() for x in answers[-2:])
+    assert early[:2] + early[3:] == late[:2] + late[3:] and (one is other is None or all(x == y or (x, y) == (1, 6) for x, y in zip(one[0], other[0])))
+    return one and (one[0], other[0])
+
+
+def late_runs(rng):
+    job, three = [b"123\rABC\r", b"9\rX\r"], [b"123\rA\r", b"9\r\r", b"123\r\r"]
+    # final verdicts are not monotone in the retry limits, which is why wish 4 has demand 3 speak of the provisional ones: with D = C = 0 the central hangs up on a garbled
+    # close with ESC EOT, which confirms; with C = 1 it says NAK to it, the last that the device takes; with D = 1 too the device closes again
+    garbled = (0, 0, 0, 0, 3)
+    assert two_runs(job, garbled, retries=0, limit=0) == ([1, 2], [1, 2])
+    assert two_runs(job, garbled, retries=0, limit=1) == ([1, 2], [6, 2])
+    assert two_runs(job, garbled, retries=1, limit=1) == ([1, 2], [1, 2])
+    # no faults; the largest job, and journals with and without room
+    for some in ([], job, job[::-1], job[:1] * 3, job[1:] * 2, [b"123\r\r"] * 64):
+        two_runs(some)
+    for n, faults in itertools.product((62, 63, 64), ((), (0, 0, 0, 0, 1))):
+        two_runs(job[:1] * 2, faults, begin=encode([b"\r"] * n))
+    # each fault at each transmission; those of the close again and again
+    for retries, limit, n, fault in itertools.product((0, 1), (0, 1), range(6), range(1, 9)):
+        two_runs(three, (0,) * n + (fault,), retries=retries, limit=limit)
+    for (retries, limit), times in itertools.product(((0, 2), (1, 1), (1, 2), (2, 1), (2, 2)), (2, 3)):
+        two_runs(three[:1], (0,) * 3 + (3,) * times, retries=retries, limit=limit)
+    # passwords that differ; whole fields
+    for password, host in ((b"", b"a"), (b"abc12", b"abc123"), (b"Z", b"z")):
+        two_runs(job, password=password, retries=1, host=host, limit=1), two_runs(job, (0, 3), password=password, retries=0, host=host, limit=0)
+    for faults in ((), (0, 0, 0, 3), (0, 0, 0, 1), (0,) * 5 + (1,), (0,) * 5 + (3, 3), (0,) * 4 + (2,)):
+        two_runs([b"123\r" + b"A" * 249 + b"\r", b"123\r\r"], faults, retries=1, limit=1, whole=True)
+    # refusals
+    good = encode(job)
+    for wrong in ({"password": b"a b"}, {"retries": 10}, {"host": b"abcdefg"}, {"longest": 2}, {"limit": 10}, {"pagers": (10 ** 8,)}, {"faults": (9,)}, {"size": 32003}, {"length": 5}, {"length": 32005},
+                  {"job": good[1:], "room": 2}, {"room": 1}, {"room": 3}, {"job": [sized(251)], "whole": True}):
+        two_runs(**{"job": job, **wrong})
+    # all kinds
+    for n in range(40):
+        password, host = rng.choice(((b"", b""), (b"q7", b"q7"))) if n % 10 else (b"", b"a")
+        some = rng.choices((b"123\r\r", b"123\rABC\r", b"7\rX\r", b"9\rX\r", b"123\r" + b"A" * 300 + b"\r", b"123\r" + b"A" * 246 + b"\r"), (3, 3, 3, 3, 1, 1), k=rng.randint(1, 5))
+        two_runs(some, some_faults(rng)[:16], password=password, retries=rng.randint(0, 2), host=host, limit=rng.randint(0, 2), pagers=(123, 7), whole=n % 3 == 0)
+
+
+def late_devices():
+    """Conversations with a device that confirms late: strings, verdicts and reports are those of one that confirms early."""
+    def alike(which, *args, **more):
+        which(*args, **more), which(*args, **more, late=True)
+        assert answers[-1] == answers[-2]
+
+    job = encode(PAGES[:1])
+    for end in CLOSES[:5]:
+        alike(e, b"q7", 1, job, *UP, SAID_ACK, *end, SAID_EOT)
+    for end in BLOCKS[:2]:
+        alike(e, b"", 1, job, *UP, *end, SAID_EOT)
+    alike(e, b"", 1, job, *OPENINGS[0], UP[0]), alike(e, b"", 1, job, UP[0], *LOGONS[0]), alike(e, b"", 1, job, *UP, SAID_ACK, SAID_RS, whole=True), alike(e, b"", 10, job, *UP)
+    for step, said in itertools.product(("opening", "logon", "sending", "closing"), (SAID_NAK, SAID_RS, SAID_EOT)):
+        alike(g, said, job=job, step=step, attempts=2)
+    alike(g, SAID_ACK, SAID_NAK, SAID_EOT, SAID_RS, job=job), alike(g, SAID_ACK, SAID_RS, job=job, whole=True), alike(g, SAID_EOT, job=job, step="stopped")
+    for wrong in ({"attempts": 3}, {"room": 255}, {"retries": 10}, {"job": job[1:]}, {"place": (0, 1)}):
+        alike(g, SAID_EOT, **{"job": job, "step": "closing", **wrong})
+
+
 def main():
     rng = random.Random(1861)
     codec(rng)
@@ -1489,6 +1707,10 @@ def main():
     cuttings(rng)
     whole_devices(rng)
     whole_runs(rng)
+    settling(rng)
+    drivers(rng)
+    late_runs(rng)
+    late_devices()
     crates = os.path.join(os.path.dirname(os.path.abspath(__file__)), "..", "crates")
     vectors = ["\n".join(rows + [""]).encode() for rows in (calls, answers)]
     for crate, files in (("vectors", vectors), ("blocks", program)):

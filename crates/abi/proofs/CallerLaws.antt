@@ -16,8 +16,7 @@ use Rattle.central.specs.Step.{stateBehind}
 use Rattle.central.specs.declared.state.Moved.{Moved}
 use Rattle.central.specs.declared.state.State as Central
 use Rattle.device.specs.Step as DeviceStep
-use Rattle.device.specs.Step.{Sent, moveOf}
-use Rattle.device.specs.declared.state.Step.{Step}
+use Rattle.device.specs.Step.{Sent, moveOf, standingOf}
 use Rattle.device.specs.declared.state.Stepped as Device
 use Rattle.call.specs.Call.{Played, Runs, ranAs}
 use Rattle.call.specs.declared.run.Ran.{Ran}
@@ -77,17 +76,18 @@ central-drops (refused n) s array {t} stage k e =
     e ∙ rw (k .answers, same, record-back s stage) refl
 
 -- of a step of the device
-pub device-packed : (s : DeviceState) (o : Outcome Sent) (step : Step) {w : Outcome ℕ} (t : Device.Stepped) →
-    w ≡ mapDone (λ x. length (x .string)) o → t .state .step ≡ moveOf step o .next → t .given ≡ moveOf step o .given → t .report ≡ moveOf step o .report →
+pub device-packed : (s : DeviceState) (o : Outcome Sent) {w : Outcome ℕ} (t : Device.Stepped) →
+    w ≡ mapDone (λ x. length (x .string)) o → t .state .step ≡ moveOf (Devices.stepOf s) o .next → t .given ≡ moveOf (Devices.stepOf s) o .given →
+    t .report ≡ moveOf (Devices.stepOf s) o .report → t .standing ≡ standingOf (Devices.stepOf s) o →
     Devices.packed s w t ≡ Devices.deviceAnswer s o
-device-packed s (done x) step t counted next given report = rw (counted, next, given, report) refl
-device-packed s (refused n) step t counted next given report = rw counted refl
+device-packed s (done x) t counted next given report standing = rw (counted, next, given, report, standing) refl
+device-packed s (refused n) t counted next given report standing = rw counted refl
 
 -- so what a step owes is owed to a C caller
-pub device-steps : (o : Outcome Sent) (step : Step) {s : DeviceState} {t : Device.Stepped} {r : DeviceStepped} {out out′ : List ℕ} →
-    DeviceStep.Steps o step t out out′ → r ≡ Devices.packed s (writtenAs (t .outcome)) t → Devices.DeviceSteps o s r out out′
-device-steps o step {s = s} {t = t} k e =
-    record { answers = e ∙ device-packed s o step t (k .answers) (k .state) (k .gave) (k .reports); leaves = k .leaves }
+pub device-steps : (o : Outcome Sent) {s : DeviceState} {t : Device.Stepped} {r : DeviceStepped} {out out′ : List ℕ} →
+    DeviceStep.Steps o (Devices.stepOf s) t out out′ → r ≡ Devices.packed s (writtenAs (t .outcome)) t → Devices.DeviceSteps o s r out out′
+device-steps o {s = s} {t = t} k e =
+    record { answers = e ∙ device-packed s o t (k .answers) (k .state) (k .gave) (k .reports) (k .stands); leaves = k .leaves }
 
 -- and a refusal leaves all
 pub device-refused : {n : ℕ} {s : DeviceState} {r : DeviceStepped} (out : List ℕ) → r ≡ Devices.refusing s n → Devices.DeviceSteps (refused n) s r out out
@@ -97,14 +97,14 @@ device-refused out e = record { answers = e; leaves = overlay-none out }
 pub runs : {o : Outcome Played} {t : Ran} {r : RunTotals} {buffer buffer′ verdicts verdicts′ : List ℕ} →
     Runs o t buffer buffer′ verdicts verdicts′ → r ≡ totalsIn (ranAs t) → CallRuns o r buffer buffer′ verdicts verdicts′
 runs k e =
-    record { answers = e ∙ ap totalsIn (k .answers); stored = k .stored; judged = k .judged; fair = k .fair; demand = k .demand }
+    record { answers = e ∙ ap totalsIn (k .answers); stored = k .stored; judged = k .judged; fair = k .fair; demand = k .demand; finals = k .finals }
 
 -- and a refusal leaves all
 pub run-refused : {n : ℕ} {r : RunTotals} (buffer verdicts : List ℕ) → r ≡ totalsIn (refused n) → CallRuns (refused n) r buffer buffer verdicts verdicts
 unfolding storedIn
 run-refused {n} buffer verdicts e =
     let none : (p : Played) → refused n ≡ done p → ⊥ = λ p h. false≢true (cc h) in
-    record { answers = e; stored = refl; judged = overlay-none verdicts; fair = λ p h. absurd (none p h); demand = λ p h. absurd (none p h) }
+    record { answers = e; stored = refl; judged = overlay-none verdicts; fair = λ p h. absurd (none p h); demand = λ p h. absurd (none p h); finals = λ p h. absurd (none p h) }
 
 -- the numbers of replies are small
 pub reply-small : (r : Reply) → replyNumber r < 7

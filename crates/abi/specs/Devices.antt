@@ -8,6 +8,7 @@ use Rattle.line.specs.Answer.{Outcome, done, refused, mapDone, output, overlay}
 use Rattle.line.specs.Test.{if_then_else_}
 use Rattle.device.specs.Reaction.{place, verdictNumber}
 use Rattle.device.specs.Step as Device
+use Rattle.device.specs.declared.settling.Standing.{Standing}
 use Rattle.device.specs.declared.state.Given.{Given}
 use Rattle.device.specs.declared.state.Given.the-variants as Giving
 use Rattle.device.specs.declared.state.Place.{Place}
@@ -18,7 +19,8 @@ use Rattle.device.specs.declared.state.Step.the-variants.{Opening, Logon, Sendi
 use Rattle.device.specs.declared.state.Stepped.{Stepped}
 use Rattle.abi.specs.Answer.{answerOf}
 use Rattle.abi.specs.Replies.{replyNumber}
-use Rattle.abi.specs.Settings.{deviceSettingsOf, ofWay}
+use Rattle.abi.specs.Settings.{deviceSettingsOf, ofSettings}
+use Rattle.abi.specs.Settling.{standingNumber}
 use Rattle.abi.specs.declared.devices.DeviceSettings.{DeviceSettings}
 use Rattle.abi.specs.declared.devices.DeviceState.{DeviceState}
 use Rattle.abi.specs.declared.devices.DeviceStepped.{DeviceStepped}
@@ -73,35 +75,37 @@ reportNumber Reporting.Nothing = 0
 
 -- ── Steps ──
 
--- a step of the state that a record is: 9 where it has no step, or the settings no way
+-- a step of the state that a record is: 9 where it has no step, or the settings no way or no confirmation
 unfoldable pub deviceStepped : DeviceState → DeviceSettings → List ℕ → List ℕ → ℕ → Outcome Device.Sent
 deviceStepped s settings job reply room =
     if ltb 4 (s .step) then refused 9
-    else ofWay (settings .way) (Device.stepped (record { step = stepOf s }) (deviceSettingsOf settings) job reply room)
+    else ofSettings settings (Device.stepped (record { step = stepOf s }) (deviceSettingsOf settings) job reply room)
 
 -- a refusal by number, which leaves the record and gives nothing
 abbrev pub refusing : DeviceState → ℕ → DeviceStepped
-refusing s n = record { answer = answerOf (refused n); state = s; verdict = 0; transaction = 0; report = 0 }
+refusing s n = record { answer = answerOf (refused n); state = s; verdict = 0; transaction = 0; report = 0; standing = 0 }
 
--- a count and a move
-abbrev pub giving : ℕ → Step → Given → Report → DeviceStepped
-giving n step given report =
+-- a count, a move, and how the accepted verdicts stand
+abbrev pub giving : ℕ → Step → Given → Report → Standing → DeviceStepped
+giving n step given report standing =
     record {
       answer = answerOf (done n);
       state = recordOf step;
       verdict = verdictIn given;
       transaction = transactionIn given;
       report = reportNumber report;
+      standing = standingNumber standing;
     }
 
 -- what is answered of a step: a refusal leaves the record
 abbrev pub packed : DeviceState → Outcome ℕ → Stepped → DeviceStepped
-packed s (done n) t = giving n (t .state .step) (t .given) (t .report)
+packed s (done n) t = giving n (t .state .step) (t .given) (t .report) (t .standing)
 packed s (refused n) t = refusing s n
 
 -- the same of what a step comes to
 abbrev pub deviceAnswer : DeviceState → Outcome Device.Sent → DeviceStepped
-deviceAnswer s (done x) = giving (length (x .string)) (x .move .next) (x .move .given) (x .move .report)
+deviceAnswer s (done x) =
+    giving (length (x .string)) (x .move .next) (x .move .given) (x .move .report) (Device.standingOf (stepOf s) (done x))
 deviceAnswer s (refused n) = refusing s n
 
 -- what a step owes a C caller: the numbers and the record, and the output

@@ -2,6 +2,7 @@ pub mod Answer
 pub mod Text
 pub mod Replies
 pub mod Settings
+pub mod Settling
 pub mod Centrals
 pub mod Devices
 pub mod Run

@@ -5,6 +5,7 @@ use Prim.Native.Nat.{ℕ}
 use Rattle.line.specs.Answer.{Outcome, done, refused, mapDone, output, overlay}
 use Rattle.journal.specs.Storage.{storedIn}
 use Rattle.demand.specs.Demand.{Fair, Demand3}
+use Rattle.demand.specs.Final.{Finals}
 use Rattle.call.specs.Call.{Setup, Played, setup, resultOf, totalsOf, numbersOf}
 use Rattle.call.specs.declared.run.Totals.{Totals}
 use Rattle.abi.specs.Settings.{centralSettingsOf, deviceSettingsOf}
@@ -33,3 +34,5 @@ pub record CallRuns (o : Outcome Played) (r : RunTotals) (buffer buffer′ verdi
   pub fair : (p : Played) → o ≡ done p → Fair (p .inputs) (p .damages)
   -- and the whole of demand 3 holds of its inputs
   pub demand : (p : Played) → o ≡ done p → Demand3 (p .inputs)
+  -- and what is claimed of final verdicts
+  pub finals : (p : Played) → o ≡ done p → Finals (p .inputs)

@@ -5,6 +5,9 @@ use crate::answer::of_written;
 use crate::password::Password;
 use crate::password::password_of;
 use crate::replies::reply_number;
+use crate::settling::CONFIRMATIONS;
+use crate::settling::confirmation_of;
+use crate::settling::standing_number;
 use crate::way::WAYS;
 use crate::way::way_of;
 use device::Given;
@@ -25,14 +28,16 @@ ghost use Rattle.line.specs.Answer.{refusalNumber, writtenAs};
 ghost use Rattle.device.specs.Step.{started};
 ghost use Rattle.abi.specs.Devices.{DeviceSteps, deviceStepped, filled, packed, recordOf, refusing};
 ghost use Rattle.abi.specs.Devices.{reportNumber, stepOf, stopped, transactionIn, verdictIn};
-ghost use Rattle.abi.specs.Settings.{deviceSettingsOf, ofWay};
+ghost use Rattle.abi.specs.Settings.{deviceSettingsOf, hasNumbers, ofSettings};
 
-// The way of cutting by its number: 0 filled, 1 whole fields.
+// The way of cutting by its number: 0 filled, 1 whole fields; and when an accepted verdict stands: 0 early,
+// 1 late.
 #[repr(C)]
 pub struct DeviceSettings {
     pub password: Password,
     pub retries: usize,
     pub way: u8,
+    pub confirmation: u8,
 }
 
 // The step by its number: 0 Stopped, 1 Opening, 2 Logon, 3 Sending, 4 Closing; and its particulars,
@@ -45,8 +50,9 @@ pub struct DeviceState {
     pub attempts: usize,
 }
 
-// The verdict that a step gives, 0 where it gives none, and on which transaction; and the reply to the
-// close: 0 where this step reports none, else 1 plus its number; silence is a reply not recognized, so 1.
+// The verdict that a step gives, 0 where it gives none, and on which transaction; the reply to the
+// close: 0 where this step reports none, else 1 plus its number; silence is a reply not recognized, so 1;
+// and how the accepted verdicts stand: 0 open, 1 confirmed, 2 in doubt.
 #[repr(C)]
 pub struct DeviceStepped {
     pub answer: Answer,
@@ -54,6 +60,7 @@ pub struct DeviceStepped {
     pub verdict: u8,
     pub transaction: usize,
     pub report: u8,
+    pub standing: u8,
 }
 
 // The highest number of a step.
@@ -68,11 +75,11 @@ pub extern "C" fn tyntolai_device_start(
 ) -> DeviceStepped
     ensures { λ r. ⌜
         DeviceSteps
-        (ofWay (settings .way) (started (deviceSettingsOf settings) (now (job .entry)) (length (now (out .entry)))))
+        (ofSettings settings (started (deviceSettingsOf settings) (now (job .entry)) (length (now (out .entry)))))
         stopped r (now (out .entry)) (now (out .exit)) ⌝ }
 {
     let stopped = record_of(Step::Stopped);
-    if WAYS < settings.way {
+    if !has_numbers(settings) {
         return refuse(stopped, Refusal::Range);
     }
     pack(stopped, start(settings_of(settings), job, out))
@@ -95,7 +102,7 @@ pub extern "C" fn tyntolai_device_step(
     if STEPS < state.step {
         return refuse(state, Refusal::Range);
     }
-    if WAYS < settings.way {
+    if !has_numbers(settings) {
         return refuse(state, Refusal::Range);
     }
     let step_now = step_of(state);
@@ -118,6 +125,7 @@ fn pack(state: DeviceState, stepped: Stepped) -> DeviceStepped
     let step = after.step;
     let given = stepped.given;
     let report = stepped.report;
+    let standing = stepped.standing;
     match outcome {
         Written::Count(_) => DeviceStepped {
             answer: of_written(outcome),
@@ -125,6 +133,7 @@ fn pack(state: DeviceState, stepped: Stepped) -> DeviceStepped
             verdict: verdict_in(given),
             transaction: transaction_in(given),
             report: report_number(report),
+            standing: standing_number(standing),
         },
         Written::Refused(refusal) => refuse(state, refusal),
     }
@@ -139,7 +148,15 @@ fn refuse(state: DeviceState, refusal: Refusal) -> DeviceStepped
         verdict: 0,
         transaction: 0,
         report: 0,
+        standing: 0,
     }
+}
+
+// The way's number names a way, and the confirmation's a confirmation.
+pub(crate) fn has_numbers(settings: DeviceSettings) -> bool
+    ensures { λ r. ⌜ r ≡ hasNumbers settings ⌝ }
+{
+    (settings.way <= WAYS) & (settings.confirmation <= CONFIRMATIONS)
 }
 
 pub(crate) fn settings_of(settings: DeviceSettings) -> Settings
@@ -150,6 +167,7 @@ pub(crate) fn settings_of(settings: DeviceSettings) -> Settings
         password: password_of(password),
         retries: settings.retries,
         way: way_of(settings.way),
+        confirmation: confirmation_of(settings.confirmation),
     }
 }
 

@@ -8,5 +8,6 @@ pub mod journals;
 pub mod password;
 pub mod replies;
 pub mod run;
+pub mod settling;
 pub mod text;
 pub mod way;

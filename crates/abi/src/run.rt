@@ -2,8 +2,8 @@
 use crate::centrals::CentralSettings;
 use crate::centrals::settings_of as central_settings;
 use crate::devices::DeviceSettings;
+use crate::devices::has_numbers;
 use crate::devices::settings_of as device_settings;
-use crate::way::WAYS;
 use call::Ran;
 use call::run::run;
 use line::Refusal;
@@ -12,7 +12,7 @@ ghost use mathlib.Core.Path.{_≡_};
 ghost use lib.ListN as ListN;
 ghost use Rattle.call.specs.Call.{called, ranAs};
 ghost use Rattle.abi.specs.Run.{CallRuns, setupOf, totalsIn};
-ghost use Rattle.abi.specs.Settings.{ofWay};
+ghost use Rattle.abi.specs.Settings.{ofSettings};
 
 // The strings that the device put out, the journal's new length, and document 01's number.
 #[repr(C)]
@@ -36,14 +36,14 @@ pub extern "C" fn tyntolai_run(
 ) -> RunTotals
     ensures { λ r. ⌜
         CallRuns
-        (ofWay (device .way)
+        (ofSettings device
         (called (setupOf device central (now (pagers .entry)) (now (job .entry)))
         (now (journal .entry)) length (now (faults .entry)) (ListN.length (now (verdicts .entry)))))
         r
         (now (journal .entry)) (now (journal .exit))
         (now (verdicts .entry)) (now (verdicts .exit)) ⌝ }
 {
-    if WAYS < device.way {
+    if !has_numbers(device) {
         return pack_totals(Ran::Refused(Refusal::Range));
     }
     pack_totals(run(

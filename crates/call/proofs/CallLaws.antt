@@ -1,29 +1,32 @@
 -- A call: the ends that a run begins with, what the tests make of a call, and what it owes where it is refused and where it is done.
 use mathlib.Core.Bool.{false≢true}
-use mathlib.Core.List.{List, map, append-nil}
-use mathlib.Core.Path.{_≡_, sym, subst, ap, _∙_}
+use mathlib.Core.List.{List, map}
+use mathlib.Core.Path.{_≡_, refl, sym, subst, ap, _∙_}
 use Prim.Native.Nat.{ℕ, _≤_}
-use native.Mathlib.Omega.{arith}
 use borrow.Author.Tests.{eq-eqb, ne-eqb}
-use lib.ListN.{length, take, replicate, length-map, drop-of-length-le}
+use lib.ListN.{length, take, replicate, length-map}
 use Rattle.line.proofs.OutcomeLaws.{map-refused}
-use Rattle.line.proofs.OverlayLaws.{overlay-none, overlay-start}
-use Rattle.line.specs.Answer.{Outcome, done, refused, countOf, output, overlay, refusalNumber, writtenAs}
+use Rattle.line.proofs.OverlayLaws.{overlay-none, overlay-start, overlay-whole}
+use Rattle.line.specs.Answer.{Outcome, done, refused, countOf, output, refusalNumber, writtenAs}
 use Rattle.line.specs.declared.answer.Refusal.{Refusal}
 use Rattle.journal.proofs.EncodingLaws.{decode-legal}
 use Rattle.journal.specs.Storage.{decodeIn, storedIn}
 use Rattle.central.specs.Lent.{stateOf, startIn}
 use Rattle.central.specs.declared.state.Control.{Control}
+use Rattle.device.proofs.SettlingLaws.{settled-length}
 use Rattle.device.proofs.StepLaws.{settings-parts}
 use Rattle.device.specs.Reaction.{verdictNumber}
 use Rattle.device.specs.Step as DeviceStep
+use Rattle.device.specs.declared.settling.Standing.the-variants.{Open}
 use Rattle.device.specs.declared.state.Step.{Step}
 use Rattle.device.specs.declared.state.Step.the-variants.{Stopped}
 use Rattle.device.specs.declared.state.Stepped as DeviceStepped
 use Rattle.device.specs.declared.state.Verdict.the-variants.{Unsent}
 use Rattle.demand.proofs.Demand.{demand3}
+use Rattle.demand.proofs.FinalLaws.{finals}
 use Rattle.demand.specs.Demand.{Fair, Demand3, Legal}
 use Rattle.demand.specs.Faults.{faulted}
+use Rattle.demand.specs.Final.{Finals, finalVerdicts, standingIn}
 use Rattle.demand.specs.Run.{Inputs, start, final}
 use Rattle.call.specs.Call.{Transactions, Setup, Played, Runs, called, played, tested}
 use Rattle.call.specs.Driver.{Sound, Kept, Holds, inputsFrom, jobOf, opening, starting}
@@ -51,14 +54,14 @@ pub begins : {s : Setup} {buffer : List ℕ} {n : ℕ} {verdicts verdicts′ : L
     {r : DeviceStepped.Stepped} {central : Control} {pending memory memory′ : List ℕ} (count : ℕ) →
     DeviceStep.Steps (done (opening s)) Stopped r memory memory′ → count ≡ countOf (writtenAs (r .outcome)) → central ≡ startIn n →
     verdicts′ ≡ map verdictNumber (replicate (length verdicts) Unsent) → length pending ≡ 2000 → length memory′ ≡ 256 →
-    Begins s (record { device = r .state; central = central; count = count }) buffer pending memory′ verdicts′
+    Begins s (record { device = r .state; central = central; count = count; standing = Open }) buffer pending memory′ verdicts′
 begins {s} {buffer} {n} {verdicts} {verdicts′} ready {r} {central} {pending} {memory} {memory′} count steps told e numbers sized wide =
     let long = count-told told (steps .answers) in
     let put : take count memory′ ≡ opening s .string = rw (steps .leaves) (overlay-start (opening s .string) memory count (sym long)) in
     let at : Step → Kept = λ step. record { device = record { step = step }; central = stateOf (startIn n) pending; buffer = buffer; string = opening s .string } in
-    let kept : starting s pending buffer n ≡ keptIn (record { device = r .state; central = startIn n; count = count }) buffer pending memory′ =
+    let kept : starting s pending buffer n ≡ keptIn (record { device = r .state; central = startIn n; count = count; standing = Open }) buffer pending memory′ =
     rw put (ap at (sym (steps .state))) in
-    subst (λ c. Begins s (record { device = r .state; central = c; count = count }) buffer pending memory′ verdicts′) (sym e)
+    subst (λ c. Begins s (record { device = r .state; central = c; count = count; standing = Open }) buffer pending memory′ verdicts′) (sym e)
     (record {
       sound = ready .sound;
       holds = subst (Holds s (start (inputsIn s buffer n))) kept (starts s pending buffer n (output (decodeIn buffer n)) (ready .read));
@@ -66,6 +69,8 @@ begins {s} {buffer} {n} {verdicts} {verdicts′} ready {r} {central} {pending} {
       inside = told-inside (opening s .string) memory count long (steps .leaves);
       wide = wide;
       numbers = rw (← ready .one-each) numbers;
+      said = refl;
+      unreported = λ _. refl;
     })
 
 -- ── What the tests make of a call ──
@@ -103,29 +108,24 @@ pub runs-refused : {o : Outcome Played} (q : Refusal) {buffer verdicts : List �
 unfolding storedIn
 runs-refused {o} q {buffer} {verdicts} e =
     let none : (p : Played) → o ≡ done p → ⊥ = λ p h. false≢true (cc (e, h)) in
-    record { answers = rw e; stored = rw e; judged = rw e (overlay-none verdicts); fair = λ p h. absurd (none p h); demand = λ p h. absurd (none p h) }
-
--- bytes as long as the memory lie over all of it
-overlay-whole : (a m : List ℕ) → length a ≡ length m → a ≡ overlay a m
-unfolding overlay
-overlay-whole a m h =
-    let none : length m ≤ length a = omega arith in
-    rw (drop-of-length-le m none, append-nil)
+    record { answers = rw e; stored = rw e; judged = rw e (overlay-none verdicts); fair = λ p h. absurd (none p h); demand = λ p h. absurd (none p h); finals = λ p h. absurd (none p h) }
 
 -- a run that is done
 pub runs-done : {o : Outcome Played} (faults : List ℕ) {i : Inputs Transactions} {t : Totals} {buffer buffer′ verdicts verdicts′ : List ℕ} →
-    o ≡ done (played faults i) → Plays (final i (faulted i faults)) t buffer buffer′ verdicts′ → Legal i → length verdicts ≡ length (i .job) →
+    o ≡ done (played faults i) → Plays i (final i (faulted i faults)) t buffer buffer′ verdicts′ → Legal i → length verdicts ≡ length (i .job) →
     Runs o (Done t) buffer buffer′ verdicts verdicts′
 runs-done {o} faults {i} {verdicts = verdicts} e plays legal h =
     let proved = demand3 i legal in
     let fair = proved .faults-fair faults in
     let same : (p : Played) → o ≡ done p → played faults i ≡ p = λ p q. cc (e, q) in
-    let vs = final i (faulted i faults) .verdicts in
-    let each : length vs ≡ length (i .job) = proved .bad-line (faulted i faults) fair .one-each in
+    let last = final i (faulted i faults) in
+    let vs = finalVerdicts i (faulted i faults) in
+    let each : length vs ≡ length (i .job) = settled-length (standingIn i last) (last .verdicts) ∙ proved .bad-line (faulted i faults) fair .one-each in
     record {
       answers = rw (e, plays .totals);
       stored = rw e (plays .stored);
       judged = rw e (plays .numbers ∙ overlay-whole (map verdictNumber vs) verdicts (length-map vs verdictNumber ∙ each ∙ sym h));
       fair = λ p q. subst (λ (x : Played). Fair (x .inputs) (x .damages)) (same p q) fair;
       demand = λ p q. subst (λ (x : Played). Demand3 (x .inputs)) (same p q) proved;
+      finals = λ p q. subst (λ (x : Played). Finals (x .inputs)) (same p q) (finals i legal);
     }

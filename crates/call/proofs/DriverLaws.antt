@@ -1,5 +1,5 @@
--- A driver of both ends, whatever the damage: where it hands each end what arrives, neither step is refused, and both make the exchange of the run's definition.
-use mathlib.Core.Bool.{true, not, _&&_, and-eq-true-iff}
+-- A driver of both ends, whatever the damage: where it hands each end what arrives, neither step is refused, both make the exchange of the run's definition, and the device says how the accepted verdicts stand behind it.
+use mathlib.Core.Bool.{true, false, not, _&&_, and-eq-true-iff}
 use mathlib.Core.List.{List}
 use mathlib.Core.Path.{_≡_, refl, sym, ap, _∙_}
 use Prim.Native.Nat.{ℕ, _≤_}
@@ -18,7 +18,11 @@ use Rattle.central.specs.Reaction.{Central, Reaction, reacts, answerBytes}
 use Rattle.central.specs.Step as CentralStep
 use Rattle.device.proofs.DeviceLaws as DeviceLaws
 use Rattle.device.proofs.StepLaws.{stepped-passes}
+use Rattle.device.specs.Settling.{isStopped}
 use Rattle.device.specs.Step as DeviceStep
+use Rattle.device.specs.declared.state.Report.the-variants as Reporting
+use Rattle.demand.proofs.FinalLaws.{exchange-stands}
+use Rattle.demand.specs.Final.{standingIn}
 use Rattle.demand.specs.Run.{Transit, hit, Inputs, Ends, start, string, answer, responds, follows, exchange}
 use Rattle.call.specs.Call.{Transactions, Setup}
 use Rattle.call.specs.Driver.{jobOf, inputsFrom, Sound, Kept, Holds, opening, starting, centralSteps, deviceSteps, Driven}
@@ -92,6 +96,13 @@ module _ {s : Setup} (sound : Sound s) (first : Transactions) (d : Transit) {e :
       let (ts, passes, made) = stepped-passes (k .device) (s .device) (s .job) (hit (d .back) (answerBytes (reaction .answer))) room y reads in
       let same : ts ≡ jobOf s = cc (passes .read, sound .read) in
       sym made ∙ rw (same, holds .step)
+
+  -- a device that goes on and has reported nothing says, of the accepted verdicts, how they stand at the ends behind the exchange
+  pub driven-stands : (room room′ : ℕ) {x : Reaction Transactions} {y : DeviceStep.Sent} → centralSteps s d k room ≡ done x → deviceSteps s d k x room′ ≡ done y →
+      isStopped (e .step) ≡ false → e .report ≡ Reporting.Nothing → DeviceStep.standingOf (k .device .step) (done y) ≡ standingIn i (exchange i d e)
+  driven-stands room room′ {x} {y} hears reads goes-on quiet =
+      let reads′ : deviceSteps s d k reaction room′ ≡ done y = rw (reacted room hears) at reads in
+      rw (moved room′ reads′, holds .step, goes-on) (sym (exchange-stands i d e quiet))
 
   -- the steps, with so much room for the answer and for the next string
   module _ (room room′ : ℕ) (bytes : all byte (k .buffer) ≡ true) where

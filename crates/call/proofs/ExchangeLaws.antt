@@ -1,10 +1,11 @@
 -- One transmission by both ends' steps: an instance of the driver's law, at the damage of a fault.
-use mathlib.Core.Bool.{true}
-use mathlib.Core.List.{List, map}
-use mathlib.Core.Path.{_≡_, sym, subst, ap, _∙_}
+use mathlib.Core.Bool.{Bool, true, false}
+use mathlib.Core.List.{List, [], map}
+use mathlib.Core.Path.{_≡_, refl, sym, subst, ap, _∙_}
 use Prim.Native.Nat.{ℕ, _≤_, _/_, _%_}
 use native.Mathlib.Omega.{arith}
 use lib.ListN.{length, take, length-append}
+use lib.Seq.{length-take-le}
 use Rattle.line.proofs.OverlayLaws.{overlay-start}
 use Rattle.line.specs.Answer.{Outcome, done, countOf, overlay, writtenAs}
 use Rattle.line.specs.Character.{byte}
@@ -15,17 +16,21 @@ use Rattle.central.proofs.StepLaws.{stepped-sized}
 use Rattle.central.specs.Lent.{stateOf, steppedIn, wholeOf}
 use Rattle.central.specs.Step as CentralStep
 use Rattle.central.specs.declared.state.Moved.{Moved}
+use Rattle.device.proofs.SettlingLaws.{is-stopped}
 use Rattle.device.specs.Reaction.{verdictNumber}
+use Rattle.device.specs.Settling.{isStopped}
 use Rattle.device.specs.Step as DeviceStep
+use Rattle.device.specs.declared.state.Report.the-variants as Reporting
 use Rattle.device.specs.declared.state.Step.{Step}
 use Rattle.device.specs.declared.state.Stepped as DeviceStepped
+use Rattle.demand.proofs.FinalLaws.{exchange-unreported}
 use Rattle.demand.specs.Faults.{damages}
 use Rattle.demand.specs.Run.{Transit, Inputs, answer, responds, follows, hit, noted, exchange}
 use Rattle.call.specs.Call.{Transactions, Setup}
 use Rattle.call.specs.Driver.{Kept, Holds, jobOf, inputsFrom, behind}
 use Rattle.call.specs.Inner.{Exchanged, Underway, arrives, keptIn}
 use Rattle.call.specs.declared.exchange.Saved.{Saved}
-use Rattle.call.proofs.DriverLaws.{central-done, device-done, driven}
+use Rattle.call.proofs.DriverLaws.{central-done, device-done, driven, driven-stands}
 
 -- what was done and is counted has this length
 pub count-told : {o : Outcome ℕ} {n m : ℕ} → n ≡ countOf o → o ≡ done m → n ≡ m
@@ -61,6 +66,21 @@ module _ {s : Setup} {saved : Saved} {buffer pending memory verdicts : List ℕ}
   -- the string as it arrives
   abbrev heard : List ℕ
   heard = arrives (fault / 3) (take (saved .count) memory)
+
+  -- the device has not stopped: it has put out a string
+  goes-on : isStopped (u .ends .step) ≡ false
+  goes-on = go (isStopped (u .ends .step)) refl
+    where
+      go : (c : Bool) → isStopped (u .ends .step) ≡ c → isStopped (u .ends .step) ≡ false
+      go false e = e
+      go true e =
+          let stopped = is-stopped (u .ends .step) e in
+          let none : take (saved .count) memory ≡ [] = u .stands .holds .put ∙ rw stopped in
+          absurd (omega (arith, u .sends, length-take-le (saved .count) memory (u .stands .inside), ap length none))
+
+  -- so it has reported nothing
+  quiet : u .ends .report ≡ Reporting.Nothing
+  quiet = u .stands .unreported goes-on
 
   -- it arrives as the damage lets it
   arrives-damaged : heard ≡ hit (damage .out) (take (saved .count) memory)
@@ -106,7 +126,7 @@ module _ {s : Setup} {saved : Saved} {buffer pending memory verdicts : List ℕ}
         -- both steps made the exchange
         pub exchanged : {verdicts′ : List ℕ} (next : ℕ) → next ≡ countOf (writtenAs (moved .outcome)) → verdicts′ ≡ map verdictNumber (noted (moved .given) (u .ends .verdicts)) →
             length pending′ ≡ length pending → length memory′ ≡ length before → all byte buffer ≡ true →
-            Exchanged s i fault (u .ends) (record { device = moved .state; central = reacted .control; count = next }) buffer buffer′ pending′ memory′ verdicts′
+            Exchanged s i fault (u .ends) (record { device = moved .state; central = reacted .control; count = next; standing = moved .standing }) buffer buffer′ pending′ memory′ verdicts′
         unfolding exchange
         exchanged next told numbers long-as same bytes =
             let central = central-steps in
@@ -122,7 +142,7 @@ module _ {s : Setup} {saved : Saved} {buffer pending memory verdicts : List ℕ}
               buffer = storedIn (done (reaction .next .journal)) buffer;
               string = sending .string;
             } in
-            let kept′ : behind kept reaction sending ≡ keptIn (record { device = moved .state; central = reacted .control; count = next }) buffer′ pending′ memory′ =
+            let kept′ : behind kept reaction sending ≡ keptIn (record { device = moved .state; central = reacted .control; count = next; standing = moved .standing }) buffer′ pending′ memory′ =
             rw (central .state, central .stored, put) (ap at (sym (device .state))) in
             record {
               stands = record {
@@ -132,6 +152,8 @@ module _ {s : Setup} {saved : Saved} {buffer pending memory verdicts : List ℕ}
                 inside = told-inside (sending .string) before next long (device .leaves);
                 wide = same ∙ wide;
                 numbers = rw (device .gave) at numbers;
+                said = device .stands ∙ driven-stands (u .stands .sound) (u .first) damage (u .stands .holds) 256 256 hears′ reads′ goes-on quiet;
+                unreported = exchange-unreported i damage (u .ends) quiet;
               };
               stored = central .stored;
             }

@@ -31,9 +31,11 @@ use Rattle.central.specs.Step.{rulesOf}
 use Rattle.central.specs.declared.state.Settings as CentralSettings
 use Rattle.device.proofs.BoundLaws.{transmissions-bound}
 use Rattle.device.proofs.SegmentsLaws.{segments-few}
+use Rattle.device.proofs.SettlingLaws.{numbers-settled}
 use Rattle.device.proofs.StepLaws.{settings-parts}
 use Rattle.device.specs.Bound.{jobBlocks, transmissionsLeft}
 use Rattle.device.specs.Reaction.{segmentIn, stringBytes, verdictNumber}
+use Rattle.device.specs.Settling.{settledNumbers}
 use Rattle.device.specs.declared.state.Settings as DeviceSettings
 use Rattle.device.specs.declared.state.Step.{Step}
 use Rattle.device.specs.declared.state.Step.the-variants.{Opening, Logon, Sending, Closing, Stopped}
@@ -42,10 +44,11 @@ use Rattle.demand.proofs.FaultLaws.{fault-step}
 use Rattle.demand.proofs.RunLaws.{after-rests}
 use Rattle.demand.proofs.Stops.{exchange-falls}
 use Rattle.demand.specs.Faults.{damages, damagesFrom, faulted}
+use Rattle.demand.specs.Final.{standingIn}
 use Rattle.demand.specs.Run.{Transit, hit, Inputs, Ends, start, string, counted, responds, exchange, after, mostTransmissions, final}
 use Rattle.call.specs.Call.{Transactions, Setup}
 use Rattle.call.specs.Driver.{Sound, jobOf, inputsFrom}
-use Rattle.call.specs.Inner.{Exchanged, Plays, Stands, Underway}
+use Rattle.call.specs.Inner.{Exchanged, Exchanges, Plays, Stands, Underway}
 use Rattle.call.specs.declared.exchange.Saved.{Saved}
 use Rattle.call.proofs.DriverLaws.{sound-ranged}
 
@@ -160,9 +163,9 @@ module _ (s : Setup) (first : Transactions) where
           stored = sym (stored-own buffer₀ (saved .central .journal) first bytes (h .read));
         }
 
-    -- so a run is underway
-    abbrev pub underway : {t : ℕ} {buffer pending memory verdicts : List ℕ} → Going s first faults buffer₀ saved t buffer pending memory verdicts → Underway s saved buffer pending memory verdicts
-    underway g = record { first = first; ends = g .ends; stands = g .stands }
+    -- so a run is underway while the device has put out a string
+    abbrev pub underway : {t : ℕ} {buffer pending memory verdicts : List ℕ} → Going s first faults buffer₀ saved t buffer pending memory verdicts → 0 < saved .count → Underway s saved buffer pending memory verdicts
+    underway g sends = record { first = first; ends = g .ends; stands = g .stands; sends = sends }
 
     -- after t transmissions
     module _ {t : ℕ} {buffer pending memory verdicts : List ℕ} (g : Going s first faults buffer₀ saved t buffer pending memory verdicts) where
@@ -170,17 +173,17 @@ module _ (s : Setup) (first : Transactions) where
       string-long : length (string i (g .ends)) ≡ saved .count
       string-long = sym (ap length (g .stands .holds .put)) ∙ length-take-le (saved .count) memory (g .stands .inside)
 
-      -- the run has come to its end
-      pub going-ends : saved .count ≤ 0 → all byte buffer ≡ true →
-          Plays (final i (faulted i faults)) (record { transmissions = t; journal = saved .central .journal }) buffer₀ buffer verdicts
-      going-ends none bytes =
+      -- the run has come to its end, and the verdicts have been settled
+      pub going-ends : saved .count ≤ 0 → all byte buffer ≡ true → {verdicts′ : List ℕ} → verdicts′ ≡ settledNumbers (saved .standing) verdicts →
+          Plays i (final i (faulted i faults)) (record { transmissions = t; journal = saved .central .journal }) buffer₀ buffer verdicts′
+      going-ends none bytes settles =
           let h = g .stands .holds in
           let stopped = silent-stopped (s .device) (jobOf s) (g .ends .step) (omega (arith, string-long)) in
           let over : final i (faulted i faults) ≡ g .ends = g .comes ∙ after-rests i (g .fuel) (damagesFrom i (drop t faults) (g .ends)) (g .ends) stopped in
           rw over (record {
             totals = rw (g .counts, read-size buffer (saved .central .journal) (g .ends .central .journal) bytes (h .read));
             stored = g .stored;
-            numbers = g .stands .numbers;
+            numbers = settles ∙ rw (g .stands .numbers, g .stands .said) (numbers-settled (standingIn i (g .ends)) (g .ends .verdicts));
           })
 
       -- both ends after one more
@@ -189,10 +192,10 @@ module _ (s : Setup) (first : Transactions) where
 
       -- one transmission more
       module _ (some : 0 < saved .count) {fault : ℕ} (told : fault ≡ getD faults t 0) {saved′ : Saved} {buffer′ pending′ memory′ verdicts′ : List ℕ}
-          (made : Exchanged s i fault (g .ends) saved′ buffer buffer′ pending′ memory′ verdicts′) where
+          (made : Exchanges s fault saved saved′ buffer buffer′ pending pending′ memory memory′ verdicts verdicts′) where
         -- its fault is the next
         x : Exchanged s i (getD faults t 0) (g .ends) saved′ buffer buffer′ pending′ memory′ verdicts′
-        x = rw told at made
+        x = rw told at (made (underway g some))
 
         -- it leaves fewer to make
         pub going-less : transmissionsLeft (s .device) (jobOf s) (saved′ .device .step) < transmissionsLeft (s .device) (jobOf s) (saved .device .step)

@@ -16,6 +16,7 @@ use Rattle.device.specs.Step as DeviceStep
 use Rattle.device.specs.declared.state.Settings as DeviceSettings
 use Rattle.demand.specs.Demand.{Fair, Demand3}
 use Rattle.demand.specs.Faults.{faulted}
+use Rattle.demand.specs.Final.{Finals, finalVerdicts}
 use Rattle.demand.specs.Run.{Inputs, Damages, Outcome as Result, run}
 use Rattle.call.specs.declared.run.Ran.{Ran}
 use Rattle.call.specs.declared.run.Ran.the-variants.{Done, Refused}
@@ -89,9 +90,9 @@ resultOf p = run (p .inputs) (p .damages)
 abbrev pub totalsOf : Played → Totals
 totalsOf p = record { transmissions = resultOf p .transmissions; journal = sizeOf (resultOf p .journal) }
 
--- its verdicts, in document 01's numbers (R-10.9)
+-- its final verdicts, by number (R-10.9, R-10.11)
 abbrev pub numbersOf : Played → List ℕ
-numbersOf p = map verdictNumber (resultOf p .verdicts)
+numbersOf p = map verdictNumber (finalVerdicts (p .inputs) (p .damages))
 
 -- an answer as document 01 gives it: 0 with the totals, or the refusal's number
 abbrev pub ranAs : Ran → Outcome Totals
@@ -110,3 +111,5 @@ pub record Runs (o : Outcome Played) (r : Ran) (buffer buffer′ verdicts verdic
   pub fair : (p : Played) → o ≡ done p → Fair (p .inputs) (p .damages)
   -- and the whole of demand 3 holds of its inputs
   pub demand : (p : Played) → o ≡ done p → Demand3 (p .inputs)
+  -- and what is claimed of final verdicts
+  pub finals : (p : Played) → o ≡ done p → Finals (p .inputs)

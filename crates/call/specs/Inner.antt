@@ -1,13 +1,17 @@
 -- What the functions inside a run ask and owe: what arrives of a string, both ends in memory, one transmission.
+use mathlib.Core.Bool.{false}
 use mathlib.Core.List.{List, map}
 use mathlib.Core.Path.{_≡_}
-use Prim.Native.Nat.{ℕ, _≤_}
+use Prim.Native.Nat.{ℕ, _≤_, _<_}
 use lib.ListN.{length, take}
 use Rattle.line.specs.Answer.{done, output}
 use Rattle.journal.specs.Storage.{decodeIn, sizeOf, storedIn}
 use Rattle.central.specs.Lent.{stateOf}
 use Rattle.device.specs.Reaction.{verdictNumber}
+use Rattle.device.specs.Settling.{isStopped, standingAt}
+use Rattle.device.specs.declared.state.Report.the-variants as Reporting
 use Rattle.demand.specs.Faults.{damage, damages, faulted}
+use Rattle.demand.specs.Final.{settledIn}
 use Rattle.demand.specs.Run.{hit, Inputs, Ends, start, exchange, final}
 use Rattle.call.specs.Call.{Transactions, Setup}
 use Rattle.call.specs.Driver.{jobOf, inputsFrom, Sound, Kept, Holds}
@@ -41,12 +45,16 @@ pub record Stands (s : Setup) (e : Ends Transactions) (saved : Saved) (buffer pe
   pub inside : saved .count ≤ length memory
   pub wide : length memory ≡ 256
   pub numbers : verdicts ≡ map verdictNumber (e .verdicts)
+  -- how the device says that the accepted verdicts stand; it has reported nothing while it goes on
+  pub said : saved .standing ≡ standingAt (s .device .confirmation) (e .step) (e .report)
+  pub unreported : isStopped (e .step) ≡ false → e .report ≡ Reporting.Nothing
 
--- a run of the setup is underway: its starting journal, and both ends as they stand
+-- a run of the setup is underway: its starting journal, both ends as they stand, and a string to send
 pub record Underway (s : Setup) (saved : Saved) (buffer pending memory verdicts : List ℕ) : Type 0 where
   pub first : Transactions
   pub ends : Ends Transactions
   pub stands : Stands s ends saved buffer pending memory verdicts
+  pub sends : 0 < saved .count
 
 -- ── One transmission ──
 
@@ -83,8 +91,8 @@ Begins s saved buffer pending memory verdicts =
 abbrev pub endsOf : Setup → List ℕ → ℕ → List ℕ → Ends Transactions
 endsOf s buffer n faults = final (inputsIn s buffer n) (faulted (inputsIn s buffer n) faults)
 
--- what a run owes that comes to these ends: its totals, the journal's buffer and the verdict buffer
-pub record Plays (e : Ends Transactions) (t : Totals) (buffer buffer′ verdicts′ : List ℕ) : Type 0 where
+-- what a run of the inputs owes that comes to these ends: its totals, the journal's buffer and the verdict buffer, settled
+pub record Plays (i : Inputs Transactions) (e : Ends Transactions) (t : Totals) (buffer buffer′ verdicts′ : List ℕ) : Type 0 where
   pub totals : t ≡ record { transmissions = e .transmissions; journal = sizeOf (e .central .journal) }
   pub stored : buffer′ ≡ storedIn (done (e .central .journal)) buffer
-  pub numbers : verdicts′ ≡ map verdictNumber (e .verdicts)
+  pub numbers : verdicts′ ≡ map verdictNumber (settledIn i e)

@@ -3,6 +3,7 @@ use crate::fault::arrive;
 use central::lent::step as step_central;
 use central::step::ANSWER;
 use device::Given;
+use device::Standing;
 use device::state::verdict_number;
 use device::step::step as step_device;
 use line::answer::count;
@@ -19,12 +20,13 @@ ghost use Rattle.demand.specs.Run.{noted};
 ghost use Rattle.call.specs.Call.{setup};
 ghost use Rattle.call.specs.Inner.{Exchanges, Underway, arrives};
 
-// Both ends between two transmissions, the central's unfinished information aside, and the length of the
-// string that the device has put out.
+// Both ends between two transmissions, the central's unfinished information aside; the length of the
+// string that the device has put out; and how it says that the accepted verdicts stand.
 pub struct Saved {
     pub device: device::State,
     pub central: central::Control,
     pub count: usize,
+    pub standing: Standing,
 }
 
 // The string at the start of the memory is sent, and answered: both ends behind it. The fault is 3
@@ -81,10 +83,12 @@ pub(crate) fn exchange(
     let device = moved.state;
     let central = reacted.control;
     let put = moved.outcome;
+    let standing = moved.standing;
     Saved {
         device,
         central,
         count: count(put),
+        standing,
     }
 }
 

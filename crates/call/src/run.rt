@@ -4,7 +4,9 @@ use crate::exchange::exchange;
 use crate::fault::fault_at;
 use crate::range::test;
 use central::lent::start as start_central;
+use device::Standing;
 use device::Verdict;
+use device::settling::settle;
 use device::state::verdict_number;
 use device::step::start as start_device;
 use line::Checked;
@@ -17,7 +19,7 @@ ghost use lib.ListN as ListN;
 ghost use Rattle.device.specs.Reaction.{verdictNumber};
 ghost use Rattle.device.specs.declared.state.Verdict.the-variants.{Unsent};
 ghost use Rattle.call.specs.Call.{Runs, called, setup};
-ghost use Rattle.call.specs.Inner.{Begins, Plays, Ready, endsOf};
+ghost use Rattle.call.specs.Inner.{Begins, Plays, Ready, endsOf, inputsIn};
 
 // What a run comes to: the strings that the device put out, and the journal's new length.
 pub struct Totals {
@@ -89,6 +91,7 @@ fn begin(
     requires { ⌜ Ready (setup device central (now pagers) (now job)) (now journal) length (now verdicts) ⌝ }
     ensures { λ r. ⌜
         Plays
+        (inputsIn (setup device central (now (pagers .entry)) (now (job .entry))) (now (journal .entry)) length)
         (endsOf (setup device central (now (pagers .entry)) (now (job .entry)))
         (now (journal .entry)) length (now (faults .entry)))
         r (now (journal .entry)) (now (journal .exit)) (now (verdicts .exit))
@@ -104,6 +107,7 @@ fn begin(
         device: state,
         central: start_central(length),
         count: count(outcome),
+        standing: Standing::Open,
     };
     play(
         first,
@@ -133,7 +137,8 @@ fn clear(verdicts: &mut [u8])
     }
 }
 
-// Transmission after transmission, until the device has stopped and puts out no string.
+// Transmission after transmission, until the device has stopped and puts out no string; then the
+// verdicts are settled as it says.
 fn play(
     first: Saved,
     job: &[u8],
@@ -152,6 +157,8 @@ fn play(
         ⌝ }
     ensures { λ r. ⌜
         Plays
+        (inputsIn (setup device central (now (pagers .entry)) (now (job .entry)))
+        (now (journal .entry)) (first .central .journal))
         (endsOf (setup device central (now (pagers .entry)) (now (job .entry)))
         (now (journal .entry)) (first .central .journal) (now (faults .entry)))
         r (now (journal .entry)) (now (journal .exit)) (now (verdicts .exit))
@@ -175,6 +182,8 @@ fn play(
         );
         transmissions += 1;
     }
+    let standing = ends.standing;
+    settle(standing, verdicts);
     Totals {
         transmissions,
         journal: ends.central.journal,

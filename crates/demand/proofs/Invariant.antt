@@ -13,7 +13,7 @@ use Rattle.block.specs.Block.{Segment}
 use Rattle.central.specs.Reaction.{Answer, nothing, idRequest, acceptance, ack, nak, rs, hangUp}
 use Rattle.device.specs.declared.state.Verdict.{Verdict}
 use Rattle.device.specs.declared.state.Verdict.the-variants.{Accepted, Rejected, Unconfirmed, Deferred}
-use Rattle.demand.specs.Demand.{decides}
+use Rattle.demand.specs.Demand.{Undecided}
 use Rattle.demand.proofs.Messages.{last, Parameters, Limits, hello, login, bye, carries, _is_, refused, Effect, whole, lost, garbled, Effects, effects, arrives, returns}
 use Rattle.demand.proofs.Model.{CentralPhase, idle, closed, logon, blocks, Response, takes, failure, hears, opening, loggingOn, closing, sending, stopped, Device, device, begin, acked, reads, ModelEnds, modelEnds, answered, sent, exchange, run, start, played, haltsAt}
 use Rattle.demand.specs.Clean.{allJudged, judged, stored}
@@ -116,7 +116,7 @@ module _ (R : Parameters) where
       pub well-cut : WellCut R left
 
     -- the start of the job is reached
-    reached-start : WellCut R job → Reached job [] j₀
+    pub reached-start : WellCut R job → Reached job [] j₀
     unfolding allJudged
     reached-start c = record { done = []; job-is = refl; told-is = refl; journal-is = refl; known = inl refl; well-cut = c }
 
@@ -139,22 +139,27 @@ module _ (R : Parameters) where
       pub data Ended : List (List ℕ) → List Verdict → J → Type 0 where
         quit : {left : List (List ℕ)} {told : List Verdict} {j : J} → Reached left told j → (Calm → match ≡ true → left ≡ []) → Ended left told j
         broke : {t : List ℕ} {left : List (List ℕ)} {told : List Verdict} {v : Verdict} {j j′ : J} → match ≡ true → Reached (t ∷ left) told j →
-            decides v ≡ false → (j′ ≡ j) ⊎ ((j′ ≡ storedBy R j t) × (v ≡ Unconfirmed)) → ¬ Calm → Ended left (told ++ v ∷ []) j′
+            Undecided v → (j′ ≡ j) ⊎ ((j′ ≡ storedBy R j t) × (v ≡ Unconfirmed)) → ¬ Calm → Ended left (told ++ v ∷ []) j′
 
       -- where the central may be while the device opens the call
-      data Waiting : CentralPhase → Type 0 where
+      pub data Waiting : CentralPhase → Type 0 where
         at-idle : Waiting idle
         at-logon : {f : ℕ} → Waiting (logon f)
         at-closed : ¬ Calm → Waiting closed
 
+      -- where the central may be while the device closes it
+      pub data Leaving : CentralPhase → Type 0 where
+        at-blocks : {f : ℕ} {p : List ℕ} → Leaving (blocks f p)
+        at-any : {s : CentralPhase} → ¬ Calm → Leaving s
+
       -- the invariant: the device at a place, the central at the step that goes with it, and what is reached
-      data Good : ModelEnds J → Type 0 where
+      pub data Good : ModelEnds J → Type 0 where
         is-opening : {a : ℕ} {s : CentralPhase} → Waiting s → Good (modelEnds (device (opening a) job []) s j₀)
         is-logging-on : {a f : ℕ} → Good (modelEnds (device (loggingOn a) job []) (logon f) j₀)
         is-sending : {a f : ℕ} {t u : List ℕ} {ts : List (List ℕ)} {told : List Verdict} {b : Segment} {bs : List Segment} {p : List ℕ} {j : J} →
             match ≡ true → Reached (t ∷ ts) told j → Pieces u b bs → p ++ u ≡ t →
             Good (modelEnds (device (sending b bs a) (t ∷ ts) told) (blocks f p) j)
-        is-closing : {a : ℕ} {told : List Verdict} {s : CentralPhase} {j : J} → Reached [] told j → Good (modelEnds (device (closing a) [] told) s j)
+        is-closing : {a : ℕ} {told : List Verdict} {s : CentralPhase} {j : J} → Leaving s → Reached [] told j → Good (modelEnds (device (closing a) [] told) s j)
         is-stopped : {left : List (List ℕ)} {told : List Verdict} {s : CentralPhase} {j : J} → Ended left told j → Good (modelEnds (device stopped left told) s j)
 
       -- faultEffect is allowed only where nothing calls for calm
@@ -183,7 +188,7 @@ module _ (R : Parameters) where
       good-begin : {left : List (List ℕ)} {told : List Verdict} {j : J} {f : ℕ} → match ≡ true → Reached left told j →
           Good (modelEnds (begin R left told) (blocks f []) j)
       unfolding begin
-      good-begin {left = []} m r = is-closing r
+      good-begin {left = []} m r = is-closing at-blocks r
       good-begin {left = t ∷ ts} m r = is-sending m r (well-cut-head (r .well-cut)) refl
 
       module _ (laws : Laws R) (L : Limits) (start : Reached job [] j₀) where
@@ -284,7 +289,7 @@ module _ (R : Parameters) where
           rejected-next e = rw (verdict-rejected j t e, after-rejected j t e) at (reached-next match-is r)
 
           -- the device stops in the transaction, and the journal is as it was
-          breaks : (v : Verdict) {s : CentralPhase} → decides v ≡ false → ¬ Calm → Good (modelEnds (device stopped ts (told ++ v ∷ [])) s j)
+          breaks : (v : Verdict) {s : CentralPhase} → Undecided v → ¬ Calm → Good (modelEnds (device stopped ts (told ++ v ∷ [])) s j)
           breaks v e n = is-stopped (broke match-is r e (inl refl) n)
 
           -- an answer that does not arrive whole is not read: the device stops in the transaction
@@ -301,39 +306,39 @@ module _ (R : Parameters) where
               Then k (device (sending b [] a) (t ∷ ts) told) (record { step = blocks 0 []; journal = R .put j t; answer = ack })
           unfolding answered reads acked
           accepts k n b a e =
-              unless-lost k b [] a _ n (λ m. is-stopped (broke match-is r refl (inr (sym (after-accepted j t e), refl)) m)) (good-begin match-is (accepted-next e))
+              unless-lost k b [] a _ n (λ m. is-stopped (broke match-is r (inl refl) (inr (sym (after-accepted j t e), refl)) m)) (good-begin match-is (accepted-next e))
 
           -- RS
           rejects : (k : Effect) → Allowed k → (b : Segment) (bs : List Segment) (a : ℕ) → admits j t ≡ false →
               Then k (device (sending b bs a) (t ∷ ts) told) (record { step = blocks 0 []; journal = j; answer = rs })
           unfolding answered reads
-          rejects k n b bs a e = unless-lost k b bs a _ n (breaks Unconfirmed refl) (good-begin match-is (rejected-next e))
+          rejects k n b bs a e = unless-lost k b bs a _ n (breaks Unconfirmed (inl refl)) (good-begin match-is (rejected-next e))
 
           -- ACK to a block that is not the last
           goes-on : (k : Effect) → Allowed k → {u : List ℕ} (b c : Segment) (bs : List Segment) (a : ℕ) (p : List ℕ) → Pieces u c bs → p ++ u ≡ t →
               Then k (device (sending b (c ∷ bs) a) (t ∷ ts) told) (record { step = blocks 0 p; journal = j; answer = ack })
           unfolding answered reads acked
-          goes-on k n b c bs a p x e = unless-lost k b (c ∷ bs) a _ n (breaks Unconfirmed refl) (is-sending match-is r x e)
+          goes-on k n b c bs a p x e = unless-lost k b (c ∷ bs) a _ n (breaks Unconfirmed (inl refl)) (is-sending match-is r x e)
 
           -- no answer
           hears-nothing : (k : Effect) → ¬ Calm → (b : Segment) (bs : List Segment) (a : ℕ) (s : CentralPhase) →
               Then k (device (sending b bs a) (t ∷ ts) told) (record { step = s; journal = j; answer = nothing })
           unfolding answered reads
-          hears-nothing k n b bs a s = unless-lost k b bs a _ (allowed k n) (breaks Unconfirmed refl) (breaks Unconfirmed refl n)
+          hears-nothing k n b bs a s = unless-lost k b bs a _ (allowed k n) (breaks Unconfirmed (inl refl)) (breaks Unconfirmed (inl refl) n)
 
           -- the central hangs up
           hears-hangup : (k : Effect) → ¬ Calm → (b : Segment) (bs : List Segment) (a : ℕ) (s : CentralPhase) →
               Then k (device (sending b bs a) (t ∷ ts) told) (record { step = s; journal = j; answer = hangUp })
           unfolding answered reads
-          hears-hangup k n b bs a s = unless-lost k b bs a _ (allowed k n) (breaks Unconfirmed refl) (breaks Deferred refl n)
+          hears-hangup k n b bs a s = unless-lost k b bs a _ (allowed k n) (breaks Unconfirmed (inl refl)) (breaks Deferred (inr (inl refl)) n)
 
           -- NAK: the central took nothing, so the block may be sent again
           hears-nak : (k : Effect) → ¬ Calm → {u : List ℕ} (b : Segment) (bs : List Segment) (a f : ℕ) (p : List ℕ) → Pieces u b bs → p ++ u ≡ t →
               Then k (device (sending b bs a) (t ∷ ts) told) (record { step = blocks f p; journal = j; answer = nak })
           unfolding answered reads
           hears-nak k n b bs a f p x e =
-              unless-lost k b bs a _ (allowed k n) (breaks Unconfirmed refl)
-              (choice (λ d. Good (modelEnds d (blocks f p) j)) (leb a (L .D)) (λ e′. is-sending match-is r x e) (λ e′. breaks Deferred refl n))
+              unless-lost k b bs a _ (allowed k n) (breaks Unconfirmed (inl refl))
+              (choice (λ d. Good (modelEnds d (blocks f p) j)) (leb a (L .D)) (λ e′. is-sending match-is r x e) (λ e′. breaks Deferred (inr (inl refl)) n))
 
           -- a block that arrives whole
           block-taken : (k : Effect) → Allowed k → {u : List ℕ} (b : Segment) (bs : List Segment) (a : ℕ) (p : List ℕ) → Pieces u b bs → p ++ u ≡ t →
@@ -363,25 +368,36 @@ module _ (R : Parameters) where
 
         -- ── Closing ──
 
-        -- the invariant is kept while the device closes
-        good-closing : (h k : Effect) (a : ℕ) (told : List Verdict) (s : CentralPhase) (j : J) → Reached [] told j →
+        -- a central that may be anywhere
+        closing-anywhere : (h k : Effect) (a : ℕ) (told : List Verdict) (s : CentralPhase) (j : J) → ¬ Calm → Reached [] told j →
             Then k (device (closing a) [] told) (hears R L s j (arrives h bye))
         unfolding answered reads
-        good-closing h k a told s j r =
+        closing-anywhere h k a told s j n r =
             let x = hears R L s j (arrives h bye) in
             rw (bye-keeps L h s j)
             (choice (λ (d : Device). Good (modelEnds d (x .step) j)) (returns k (x .answer) is nak && leb a (L .D))
-            (λ e. is-closing r) (λ e. is-stopped (quit r (λ c e. refl))))
+            (λ e. is-closing (at-any n) r) (λ e. is-stopped (quit r (λ c e. refl))))
+
+        -- the invariant is kept while the device closes
+        good-closing : (h k : Effect) → Allowed h → Allowed k → (a : ℕ) (told : List Verdict) (s : CentralPhase) (j : J) → Leaving s → Reached [] told j →
+            Then k (device (closing a) [] told) (hears R L s j (arrives h bye))
+        unfolding answered reads hears
+        good-closing h k n m a told s j (at-any q) r = closing-anywhere h k a told s j q r
+        good-closing whole whole n m a told s j at-blocks r = is-stopped (quit r (λ c e. refl))
+        good-closing whole lost n m a told s j at-blocks r = is-stopped (quit r (λ c e. refl))
+        good-closing whole garbled n m a told s j at-blocks r = is-stopped (quit r (λ c e. refl))
+        good-closing lost k n m a told s j at-blocks r = closing-anywhere lost k a told s j n r
+        good-closing garbled k n m a told s j at-blocks r = closing-anywhere garbled k a told s j n r
 
         -- ── Every place ──
 
         -- every transmission keeps the invariant
-        good-exchange : (h k : Effect) → Allowed h → Allowed k → {w : ModelEnds J} → Good w → Good (exchange R L (effects h k) w)
+        pub good-exchange : (h k : Effect) → Allowed h → Allowed k → {w : ModelEnds J} → Good w → Good (exchange R L (effects h k) w)
         unfolding exchange sent
         good-exchange h k n m (is-opening {a = a} {s = s} w) = good-opening h k n m a s w
         good-exchange h k n m (is-logging-on {a = a} {f = f}) = good-logging-on h k n m a f
         good-exchange h k n m (is-sending {a = a} {f = f} {b = b} {bs = bs} {p = p} i r x e) = good-sending i r h k n m b bs a f p x e
-        good-exchange h k n m (is-closing {a = a} {told = told} {s = s} {j = j} r) = good-closing h k a told s j r
+        good-exchange h k n m (is-closing {a = a} {told = told} {s = s} {j = j} w r) = good-closing h k n m a told s j w r
         good-exchange h k n m (is-stopped e) = is-stopped e
 
         -- so does every run
@@ -400,7 +416,7 @@ module _ (R : Parameters) where
       good-end (is-opening w) e = absurd (false≢true e)
       good-end is-logging-on e = absurd (false≢true e)
       good-end (is-sending i r x q) e = absurd (false≢true e)
-      good-end (is-closing r) e = absurd (false≢true e)
+      good-end (is-closing w r) e = absurd (false≢true e)
       good-end (is-stopped x) e = x
 
       -- it holds of every run

@@ -6,6 +6,7 @@ mod Tests
 mod HigherLimits
 mod Invariant
 mod Summary
+mod Agreement
 mod Safety
 mod Instance
 pub mod RunLaws
@@ -14,6 +15,8 @@ mod CentralFollows
 mod DeviceFollows
 mod RunFollows
 mod Lines
+mod CleanClose
+pub mod FinalLaws
 pub mod FaultLaws
 mod SameFaults
 pub mod Demand

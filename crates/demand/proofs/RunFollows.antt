@@ -162,29 +162,46 @@ module _ {J : Type 0} (i : Inputs J) (l : Legal i) where
   pub data SameEnds : Ends J → ModelEnds J → Type 0 where
     ends : {e : Ends J} {d : Device} {s : CentralPhase} {j : J} → Same i (e .step) (e .verdicts) d → SameCentral i (e .central) s j → SameEnds e (modelEnds d s j)
 
-  -- the central's answer to a string, and what the device does with it
+  -- the central's answer to a string, as the device reads it
+  answer-same : (d : Damage) {x : Reaction J} {r : Response J} → Replaced NoReply d (answerBytes (x .answer)) → SameReply i x r →
+      replyRead (hit d (answerBytes (x .answer))) ≡ readAs (returns (effectOf d) (r .answer))
+  answer-same d {x} fair same = returns-same (x .answer) d fair ∙ ap (λ y. readAs (returns (effectOf d) y)) (same .1)
+
+  -- and what it does with it
   answered-same : (d : Damage) (e : Ends J) (n : ℕ) (x : Reaction J) (r : Response J) {v : Device} → Same i (e .step) (e .verdicts) v →
       Replaced NoReply d (answerBytes (x .answer)) → SameReply i x r →
       let m = moves (i .device) (i .job) (e .step) (replyRead (hit d (answerBytes (x .answer)))) in
       SameEnds (record { step = m .next; verdicts = noted (m .given) (e .verdicts); report = reported (m .report) (e .report); central = x .next; transmissions = n })
       (answered (model i) (limits i) (effectOf d) v r)
   unfolding answered
-  answered-same d e n x r dev fair (now, alike) =
-      let read : replyRead (hit d (answerBytes (x .answer))) ≡ readAs (returns (effectOf d) (r .answer)) =
-      returns-same (x .answer) d fair ∙ ap (λ y. readAs (returns (effectOf d) y)) alike in
-      ends (rw (← read) at (moves-same i (l .job) (returns (effectOf d) (r .answer)) dev)) now
+  answered-same d e n x r dev fair same =
+      ends (rw (← (answer-same d fair same)) at (moves-same i (l .job) (returns (effectOf d) (r .answer)) dev)) (same .0)
 
   -- a string that says x
-  pub sent-same : (d : Transit) (e : Ends J) (x : Message) {v : Device} {s : CentralPhase} {j : J} → (e .step ≡ Stopped → ⊥) →
-      Says i (stringText (i .device) (i .job) (e .step)) x → FairAt i d e → Same i (e .step) (e .verdicts) v → SameCentral i (e .central) s j →
-      SameEnds (exchange i d e) (sent (model i) (limits i) (effectsOf d) v s j (some x))
-  unfolding exchange responds follows sent
-  sent-same d e x moving says fair dev both =
-      let there = same-exists i (l .job) dev in
-      let narrow = string-seven (i .device) (i .job) (l .password) (l .job) (e .step) there in
-      let fits = string-short (i .device) (i .job) (l .password) (l .job) (e .step) there in
-      let filled = string-some (i .device) (i .job) (e .step) moving in
-      answered-same (d .back) e _ _ _ dev (fair .no-reply) (arrives-same i _ narrow fits filled says both (d .out) (fair .unheard))
+  module _ (d : Transit) (e : Ends J) (x : Message) {v : Device} {s : CentralPhase} {j : J} (moving : e .step ≡ Stopped → ⊥)
+      (says : Says i (stringText (i .device) (i .job) (e .step)) x) (fair : FairAt i d e) (dev : Same i (e .step) (e .verdicts) v) (both : SameCentral i (e .central) s j) where
+    -- what the model's central does with what arrives of it
+    abbrev response : Response J
+    response = hears (model i) (limits i) s j (arrives (effectOf (d .out)) x)
+
+    -- the central does the same
+    responds-same : SameReply i (responds i (d .out) e) response
+    unfolding responds
+    responds-same =
+        let there = same-exists i (l .job) dev in
+        let narrow = string-seven (i .device) (i .job) (l .password) (l .job) (e .step) there in
+        let fits = string-short (i .device) (i .job) (l .password) (l .job) (e .step) there in
+        let filled = string-some (i .device) (i .job) (e .step) moving in
+        arrives-same i _ narrow fits filled says both (d .out) (fair .unheard)
+
+    -- the device reads what the model's does
+    pub reads-same : replyRead (hit (d .back) (answer i (d .out) e)) ≡ readAs (returns (effectOf (d .back)) (response .answer))
+    reads-same = answer-same (d .back) (fair .no-reply) responds-same
+
+    -- both ends are the model's behind it
+    pub sent-same : SameEnds (exchange i d e) (sent (model i) (limits i) (effectsOf d) v s j (some x))
+    unfolding exchange follows sent
+    sent-same = answered-same (d .back) e _ _ _ dev (fair .no-reply) responds-same
 
   -- a device that has stopped puts out no string: nothing moves
   stopped-same : (d : Transit) (vs : List Verdict) (shown : Report) (c : Central J) (n : ℕ) {v : Device} {s : CentralPhase} {j : J} → Same i Stopped vs v → SameCentral i c s j →

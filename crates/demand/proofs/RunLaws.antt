@@ -9,7 +9,7 @@ use Rattle.central.specs.Reaction.{reacts}
 use Rattle.device.specs.Reaction.{moves}
 use Rattle.device.specs.declared.state.Step.{Step}
 use Rattle.device.specs.declared.state.Step.the-variants.{Stopped}
-use Rattle.demand.specs.Demand.{Replaced, Unheard, NoReply, FairFor}
+use Rattle.demand.specs.Demand.{Replaced, Unheard, NoReply, FairAt, FairFor}
 use Rattle.demand.specs.Run.{whole, Transit, Damages, next, Inputs, Ends, string, answer, responds, follows, counted, exchange, after}
 
 -- ── Rest ──
@@ -53,11 +53,12 @@ whole-replaced : (P : List ℕ → Type 0) (bytes : List ℕ) → Replaced P who
 whole-replaced P [] = tt
 whole-replaced P (b ∷ bs) = tt
 
--- an empty list of damage is fair
+-- a transmission without damage is fair
+pub clean-fair-at : {J : Type 0} (i : Inputs J) (e : Ends J) → FairAt i (next []) e
+clean-fair-at i e = record { unheard = whole-replaced (Unheard (e .central .stage)) (string i e); no-reply = whole-replaced NoReply (answer i whole e) }
+
+-- so is an empty list of damage
 pub clean-fair : {J : Type 0} (i : Inputs J) (n : ℕ) (e : Ends J) → FairFor i n [] e
 unfolding FairFor
 clean-fair i zero e = tt
-clean-fair i (suc n) e = (
-  record { unheard = whole-replaced (Unheard (e .central .stage)) (string i e); no-reply = whole-replaced NoReply (answer i whole e) },
-  clean-fair i n (exchange i (next []) e),
-)
+clean-fair i (suc n) e = (clean-fair-at i e, clean-fair i n (exchange i (next []) e))

@@ -4,10 +4,9 @@ use mathlib.Core.List.{List, [], _++_, append-nil}
 use mathlib.Core.Logic.{_⊎_, inl, inr}
 use mathlib.Core.Path.{_≡_, refl, sym, _∙_, ap}
 use lib.ListN.{length, getD, replicate}
-use lib.Seq.{getD-take, take-length}
-use native.Mathlib.Nat.{eq-or-lt-of-le, lt-of-not-le}
+use lib.Seq.{take-length}
 use native.Mathlib.Omega.{arith}
-use Prim.Native.Nat.{ℕ, _<_, _≤_}
+use Prim.Native.Nat.{ℕ, _≤_}
 use Rattle.device.specs.declared.state.Verdict.{Verdict}
 use Rattle.device.specs.declared.state.Verdict.the-variants.{Unsent}
 use Rattle.demand.proofs.Messages.{Parameters, Limits, Effects}
@@ -16,26 +15,11 @@ use Rattle.demand.specs.Clean.{allJudged}
 use Rattle.demand.proofs.CleanModel.{allJudgedBy, verdictsBy, journalBy}
 use Rattle.demand.proofs.Claim.{Laws, WellCut, Safe}
 use Rattle.demand.specs.Demand.{decides, decided}
-use Rattle.demand.proofs.Tests.{deviceOf, decided-append, decided-unsent, undecided-open}
+use Rattle.demand.proofs.Agreement.{decided-clean, decided-early}
+use Rattle.demand.proofs.Tests.{deviceOf, decided-append, decided-unsent}
 use Rattle.demand.proofs.HigherLimits.{count, decides-more}
 use Rattle.demand.proofs.Invariant.{Ended, quit, broke, undamaged, EndOf, played-end}
 use Rattle.demand.proofs.Summary.{summary, clean-verdicts-are, clean-journal-is, unmatched-verdicts, unmatched-journal, safe}
-
--- a decided verdict of a run is the clean one
-decided-clean : (R : Parameters) (job : List (List ℕ)) (j : R .J) {vs : List Verdict} {j′ : R .J} → Safe R job j vs j′ → (i : ℕ) → i < decided vs →
-    getD vs i Unsent ≡ getD (verdictsBy R j job) i Unsent
-decided-clean R job j {vs} a i h =
-    sym (getD-take (decided vs) vs i Unsent h) ∙ ap (λ (l : List Verdict). getD l i Unsent) (a .agrees .first-clean)
-    ∙ getD-take (decided vs) (verdictsBy R j job) i Unsent h
-
--- only the first k are decided
-decided-early : (R : Parameters) (job : List (List ℕ)) (j : R .J) {vs : List Verdict} {j′ : R .J} → Safe R job j vs j′ → (i : ℕ) →
-    decides (getD vs i Unsent) ≡ true → i < decided vs
-decided-early R job j {vs} a i e = lt-of-not-le (λ h. go (eq-or-lt-of-le h))
-  where
-    go : (decided vs ≡ i) ⊎ (decided vs < i) → ⊥
-    go (inl q) = false≢true (sym (undecided-open (a .agrees .next-undecided)) ∙ ap (λ (n : ℕ). decides (getD vs n Unsent)) q ∙ e)
-    go (inr h) = false≢true (ap decides (sym (a .agrees .later-unsent i h)) ∙ e)
 
 -- the decisions of a modelEnds are those of its device
 count-is : {J : Type 0} (w : ModelEnds J) → decided (outcome w .verdicts) ≡ count (deviceOf w)
@@ -61,10 +45,10 @@ module _ (R : Parameters) (laws : Laws R) (job : List (List ℕ)) (well-cut : We
       decides (getD (outcome (played R L n job j ms) .verdicts) i Unsent) ≡ true →
       getD (outcome (played R L′ n′ job j ms) .verdicts) i Unsent ≡ getD (outcome (played R L n job j ms) .verdicts) i Unsent
   played-kept L L′ n n′ d c more ms h h′ i e =
-      let early = decided-early R job j (played-safe L n ms h) i e in
-      decided-clean R job j (played-safe L′ n′ ms h′) i
+      let early = decided-early (played-safe L n ms h .agrees) i e in
+      decided-clean (played-safe L′ n′ ms h′ .agrees) i
       (omega (arith, decides-more R L L′ d c n n′ more job j ms, count-is (played R L n job j ms), count-is (played R L′ n′ job j ms)))
-      ∙ sym (decided-clean R job j (played-safe L n ms h) i early)
+      ∙ sym (decided-clean (played-safe L n ms h .agrees) i early)
 
   -- what a run without damage comes to
   abbrev Clean : List (List ℕ) → List Verdict → R .J → Type 0

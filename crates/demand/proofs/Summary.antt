@@ -16,8 +16,8 @@ use Rattle.demand.proofs.Messages.{Parameters}
 use Rattle.demand.specs.Clean.{allJudged, judged}
 use Rattle.demand.proofs.CleanModel.{judgedBy, storedBy, allJudgedBy, verdictsBy, journalBy}
 use Rattle.demand.proofs.Claim.{Safe}
-use Rattle.demand.specs.Demand.{decides, decided}
-use Rattle.demand.proofs.Tests.{decided-append, decided-unsent, open-undecided}
+use Rattle.demand.specs.Demand.{Undecided, decides, decided}
+use Rattle.demand.proofs.Tests.{decided-append, decided-unsent, undecided-open}
 use Rattle.demand.proofs.Invariant.{verdicts-append, Ended, quit, broke}
 
 module _ (R : Parameters) where
@@ -51,10 +51,10 @@ module _ (R : Parameters) where
   length-undecided v (t ∷ ts) = ap suc (length-replicate (length ts) Unsent)
 
   -- none of them is a decision
-  decided-undecided : (v : Verdict) → decides v ≡ false → (ts : List (List ℕ)) → decided (undecided v ts) ≡ 0
+  decided-undecided : (v : Verdict) → Undecided v → (ts : List (List ℕ)) → decided (undecided v ts) ≡ 0
   unfolding decided
   decided-undecided v e [] = refl
-  decided-undecided v e (t ∷ ts) = rw e (decided-unsent (length ts))
+  decided-undecided v e (t ∷ ts) = rw (undecided-open e) (decided-unsent (length ts))
 
   -- all of them may be unsent
   undecided-unsent : (ts : List (List ℕ)) → replicate (length ts) Unsent ≡ undecided Unsent ts
@@ -68,8 +68,8 @@ module _ (R : Parameters) where
   getD-unsent (suc n) (suc i) = getD-unsent n i
 
   -- the first is no decision
-  first-undecided : (v : Verdict) → decides v ≡ false → (ts : List (List ℕ)) → decides (getD (undecided v ts) 0 Unsent) ≡ false
-  first-undecided v e [] = refl
+  first-undecided : (v : Verdict) → Undecided v → (ts : List (List ℕ)) → Undecided (getD (undecided v ts) 0 Unsent)
+  first-undecided v e [] = inr (inr refl)
   first-undecided v e (t ∷ ts) = e
 
   -- the later ones are unsent
@@ -94,7 +94,7 @@ module _ (R : Parameters) where
       v : Verdict
       job-is : job ≡ done ++ rest
       verdicts-are : vs ≡ allJudgedBy R j₀ done ++ undecided v rest
-      v-open : decides v ≡ false
+      v-open : Undecided v
       known : (done ≡ []) ⊎ (match ≡ true)
       journal-is : (j ≡ after-all done) ⊎ Late done rest v j
 
@@ -108,7 +108,7 @@ module _ (R : Parameters) where
           v = Unsent;
           job-is = r .job-is;
           verdicts-are = rw (r .told-is, undecided-unsent left);
-          v-open = refl;
+          v-open = inr (inr refl);
           known = r .known;
           journal-is = inl (r .journal-is);
         }
@@ -189,7 +189,7 @@ module _ (R : Parameters) where
             one-each = rw (s .verdicts-are, s .job-is) (simp (length-append, length-verdicts, length-undecided));
             agrees = record {
               first-clean = clean-start;
-              next-undecided = open-undecided _ (rw (simp add-zero at (at 0)) (first-undecided v (s .v-open) rest));
+              next-undecided = rw (simp add-zero at (at 0)) (first-undecided v (s .v-open) rest);
               later-unsent = later;
               journal-clean = go (s .journal-is);
             };

@@ -2,13 +2,13 @@
 use mathlib.Core.Bool.{Bool, true, false, _&&_, false≢true}
 use mathlib.Core.List.{List, [], _∷_, _++_}
 use mathlib.Core.Logic.{inl, inr}
-use mathlib.Core.Path.{_≡_, refl, sym}
+use mathlib.Core.Path.{_≡_, refl}
 use lib.ListN.{replicate}
 use native.Mathlib.Omega.{arith}
 use Prim.Native.Nat.{ℕ, zero, suc, _+_}
 use Rattle.line.specs.Test.{if_then_else_}
 use Rattle.device.specs.declared.state.Verdict.{Verdict}
-use Rattle.device.specs.declared.state.Verdict.the-variants.{Accepted, Rejected, Unconfirmed, Deferred, Unsent}
+use Rattle.device.specs.declared.state.Verdict.the-variants.{Unsent}
 use Rattle.demand.proofs.Model.{Device, ModelEnds, modelEnds}
 use Rattle.demand.specs.Demand.{decides, decided, Undecided}
 
@@ -47,15 +47,7 @@ unfolding decided
 decided-unsent zero = refl
 decided-unsent (suc n) = decided-unsent n
 
--- a verdict that decides nothing is unconfirmed, deferred or unsent
-pub open-undecided : (v : Verdict) → decides v ≡ false → Undecided v
-open-undecided Accepted e = absurd (false≢true (sym e))
-open-undecided Rejected e = absurd (false≢true (sym e))
-open-undecided Unconfirmed e = inl refl
-open-undecided Deferred e = inr (inl refl)
-open-undecided Unsent e = inr (inr refl)
-
--- and these decide nothing
+-- a verdict that is unconfirmed, deferred or unsent decides nothing
 pub undecided-open : {v : Verdict} → Undecided v → decides v ≡ false
 undecided-open (inl e) = rw e
 undecided-open (inr (inl e)) = rw e

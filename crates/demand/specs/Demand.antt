@@ -14,7 +14,7 @@ use Rattle.central.specs.declared.state.Stage.{Stage}
 use Rattle.device.specs.Reaction.{withRetries}
 use Rattle.device.specs.declared.state.Step.the-variants.{Stopped}
 use Rattle.device.specs.declared.state.Verdict.{Verdict}
-use Rattle.device.specs.declared.state.Verdict.the-variants.{Accepted, Rejected, Unconfirmed, Deferred, Unsent}
+use Rattle.device.specs.declared.state.Verdict.the-variants.{Accepted, Rejected, Unconfirmed, Deferred, Unsent, InDoubt}
 use Rattle.reply.specs.Reading.{replyRead}
 use Rattle.reply.specs.declared.Reply.the-variants.{Unrecognized}
 use Rattle.demand.specs.Clean.{cleanVerdicts, cleanJournal}
@@ -69,6 +69,7 @@ decides Rejected = true
 decides Unconfirmed = false
 decides Deferred = false
 decides Unsent = false
+decides InDoubt = false
 
 -- how many of the verdicts are accepted or rejected (R-10.8)
 unfoldable pub decided : List Verdict → ℕ

@@ -24,7 +24,7 @@ use Rattle.device.specs.declared.state.State.{State}
 use Rattle.device.specs.declared.state.Step.{Step}
 use Rattle.device.specs.declared.state.Step.the-variants.{Sending, Stopped}
 use Rattle.device.specs.declared.state.Verdict.{Verdict}
-use Rattle.device.specs.declared.state.Verdict.the-variants.{Accepted, Rejected, Unconfirmed, Deferred, Unsent}
+use Rattle.device.specs.declared.state.Verdict.the-variants.{Accepted, Rejected, Unconfirmed, Deferred, Unsent, InDoubt}
 use Rattle.device.proofs.MoveLaws.{Leads, requested, reopens, unanswered, admitted, relogs, turned-away, accepted, continued, resends, exhausted, rejected, hung-up, unconfirmed, recloses, reported, stays, moves-lead}
 use Rattle.device.proofs.PlaceLaws.{moves-exist}
 use Rattle.device.proofs.RangeLaws.{moves-in-range}
@@ -76,6 +76,7 @@ Decides settings ts p r Rejected = r ≡ Recognized Rs
 Decides settings ts p r Unconfirmed = blockReply r ≡ Block.Unrecognized
 Decides settings ts p r Deferred = ((r ≡ Recognized Nak) × (settings .retries + 1 ≤ p .attempts)) ⊎ (r ≡ Recognized Eot)
 Decides settings ts p r Unsent = ⊥
+Decides settings ts p r InDoubt = ⊥
 
 -- a verdict on a transaction
 module _ (settings : Settings) (ts : List (List ℕ)) (t : ℕ) (v : Verdict) where

@@ -7,6 +7,7 @@ pub mod MoveLaws
 pub mod PlaceLaws
 pub mod RangeLaws
 pub mod SegmentsLaws
+pub mod SettlingLaws
 pub mod StepLaws
 pub mod StringLaws
 pub mod WaitLaws

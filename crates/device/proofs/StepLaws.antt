@@ -21,7 +21,9 @@ use Rattle.journal.specs.declared.record.Surveyed.the-variants.{Found, Refused}
 use Rattle.reply.specs.Reading.{replyRead}
 use Rattle.device.specs.Inner.{transactionOf}
 use Rattle.device.specs.Reaction.{Move, goes, first, moves}
-use Rattle.device.specs.Step.{settingsInRange, stepInRange, cutsAll, exists, Sent, sent, tested, stepped, started, answered, Steps}
+use Rattle.device.specs.Step.{settingsInRange, stepInRange, cutsAll, exists, Sent, sent, tested, stepped, started, standingOf, answered, Steps}
+use Rattle.device.specs.declared.settling.Standing.{Standing}
+use Rattle.device.specs.declared.settling.Standing.the-variants.{Open}
 use Rattle.device.specs.declared.state.Settings.{Settings}
 use Rattle.device.specs.declared.state.State.{State}
 use Rattle.device.specs.declared.state.Step.{Step}
@@ -32,22 +34,20 @@ use Rattle.device.specs.declared.state.Stepped.{Stepped}
 
 -- a refusal leaves state and memory
 pub steps-refused : {o : Outcome Sent} {r : Stepped} (w : Written) (step : Step) (n : ℕ) (out : List ℕ) →
-    o ≡ refused n → writtenAs w ≡ refused n → r ≡ answered w (goes step) → Steps o step r out out
-steps-refused w step n out e a q = rw (q, e) (record { answers = a; state = refl; gave = refl; numbers = refl; reports = refl; leaves = overlay-none out })
+    o ≡ refused n → writtenAs w ≡ refused n → r ≡ answered w Open (goes step) → Steps o step r out out
+steps-refused w step n out e a q = rw (q, e) (record { answers = a; state = refl; gave = refl; numbers = refl; reports = refl; stands = refl; leaves = overlay-none out })
 
 -- a move is answered with the count of the string that was put out
-pub steps-done : {o : Outcome Sent} {r : Stepped} (x : Sent) (step : Step) (n : ℕ) (out after : List ℕ) →
-    o ≡ done x → Laid (x .string) n out after → r ≡ answered (Count n) (x .move) → Steps o step r out after
-steps-done x step n out after e d q =
+pub steps-done : {o : Outcome Sent} {r : Stepped} {standing : Standing} (x : Sent) (step : Step) (n : ℕ) (out after : List ℕ) →
+    o ≡ done x → Laid (x .string) n out after → standing ≡ standingOf step (done x) → r ≡ answered (Count n) standing (x .move) → Steps o step r out after
+steps-done x step n out after e d s q =
     let counts = d .counts in
-    rw (q, e) (record { answers = cc; state = refl; gave = refl; numbers = refl; reports = refl; leaves = d .leaves })
+    rw (q, e) (record { answers = cc; state = refl; gave = refl; numbers = refl; reports = refl; stands = s; leaves = d .leaves })
 
--- a move that was sent is what the outcome asks, from whatever step
-pub steps-sent : {o : Outcome Sent} (settings : Settings) (ts : List (List ℕ)) {m m′ : Move} {step step′ : Step} {r : Stepped} {out after : List ℕ} →
-    o ≡ done (sent settings ts m′) → m ≡ m′ → Steps (done (sent settings ts m)) step r out after → Steps o step′ r out after
-steps-sent settings ts {step = step} {r = r} {out = out} {after = after} e moved w =
-    let v = subst (λ m. Steps (done (sent settings ts m)) step r out after) moved w in
-    rw e (record { answers = v .answers; state = v .state; gave = v .gave; numbers = v .numbers; reports = v .reports; leaves = v .leaves })
+-- a move that was sent is what the outcome asks
+pub steps-sent : {o : Outcome Sent} (settings : Settings) (ts : List (List ℕ)) {m m′ : Move} {step : Step} {r : Stepped} {out after : List ℕ} →
+    o ≡ done (sent settings ts m′) → m ≡ m′ → Steps (done (sent settings ts m)) step r out after → Steps o step r out after
+steps-sent settings ts {step = step} {r = r} {out = out} {after = after} e moved w = rw e (subst (λ m. Steps (done (sent settings ts m)) step r out after) moved w)
 
 -- settings in range: a password, and the retry limit
 pub settings-parts : (s : Settings) → settingsInRange s ≡ true → (passwordInRange (s .password) ≡ true) × (s .retries ≤ 9)

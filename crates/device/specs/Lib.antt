@@ -1,4 +1,5 @@
 pub mod Reaction
+pub mod Settling
 pub mod Step
 pub mod Bound
 pub mod Inner

@@ -30,21 +30,22 @@ use Rattle.device.specs.declared.state.Settings.{Settings}
 use Rattle.device.specs.declared.state.Step.{Step}
 use Rattle.device.specs.declared.state.Step.the-variants.{Opening, Logon, Sending, Closing, Stopped}
 use Rattle.device.specs.declared.state.Verdict.{Verdict}
-use Rattle.device.specs.declared.state.Verdict.the-variants.{Accepted, Rejected, Unconfirmed, Deferred, Unsent}
+use Rattle.device.specs.declared.state.Verdict.the-variants.{Accepted, Rejected, Unconfirmed, Deferred, Unsent, InDoubt}
 
 -- the same settings with another retry limit
 abbrev pub withRetries : Settings → ℕ → Settings
-withRetries settings n = record { password = settings .password; retries = n; way = settings .way }
+withRetries settings n = record { password = settings .password; retries = n; way = settings .way; confirmation = settings .confirmation }
 
 -- ── Verdicts ──
 
--- document 01's number of each verdict (R-6.6)
+-- the papers' number of each verdict (R-6.6)
 abbrev pub verdictNumber : Verdict → ℕ
 verdictNumber Accepted = 1
 verdictNumber Rejected = 2
 verdictNumber Unconfirmed = 3
 verdictNumber Deferred = 4
 verdictNumber Unsent = 5
+verdictNumber InDoubt = 6
 
 -- what is given in document 01's numbers: the transaction and the number of its verdict, where there is one (R-6.6)
 abbrev pub givenAs : Given → Option (ℕ × ℕ)

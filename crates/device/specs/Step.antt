@@ -14,6 +14,9 @@ use Rattle.segmentation.specs.Segmentation.{cuttable}
 use Rattle.segmentation.specs.declared.way.Way.{Way}
 use Rattle.reply.specs.Reading.{replyRead}
 use Rattle.device.specs.Reaction.{Move, moves, goes, givenAs, blocksIn, first, stringBytes}
+use Rattle.device.specs.Settling.{isStopped, standingAt}
+use Rattle.device.specs.declared.settling.Standing.{Standing}
+use Rattle.device.specs.declared.settling.Standing.the-variants.{Open}
 use Rattle.device.specs.declared.state.Place.{Place}
 use Rattle.device.specs.declared.state.Settings.{Settings}
 use Rattle.device.specs.declared.state.State.{State}
@@ -58,14 +61,20 @@ unfoldable pub cutsAll : Way → List (List ℕ) → Bool
 cutsAll way [] = true
 cutsAll way (t ∷ ts) = cuttable way t && cutsAll way ts
 
--- the step behind a move, with the string it sends
+-- the step behind a move, with the string it sends, and how the accepted verdicts stand there
 pub record Sent : Type 0 where
   pub move : Move
   pub string : List ℕ
+  pub standing : Standing
 
 -- a move and the string of its step
 abbrev pub sent : Settings → List (List ℕ) → Move → Sent
-sent settings job m = record { move = m; string = stringBytes settings job (m .next) }
+sent settings job m =
+    record {
+      move = m;
+      string = stringBytes settings job (m .next);
+      standing = standingAt (settings .confirmation) (m .next) (m .report);
+    }
 
 -- the tests of a step, in document 01's order: the transactions of the job, or
 -- 9 where settings or attempts are out of range, 1 where the output is short of 256,
@@ -95,15 +104,23 @@ abbrev pub moveOf : Step → Outcome Sent → Move
 moveOf step (done x) = x .move
 moveOf step (refused n) = goes step
 
--- what is answered: the outcome, and a move
-abbrev pub answered : Written → Move → Stepped
-answered w m = record { outcome = w; state = record { step = m .next }; given = m .given; report = m .report }
+-- how the accepted verdicts stand behind an outcome: a step that is refused, or that comes behind the stop, leaves them open (R-6.11)
+abbrev pub standingOf : Step → Outcome Sent → Standing
+standingOf step (done x) = if isStopped step then Open else x .standing
+standingOf step (refused n) = Open
 
--- what a step owes: the count, the state, the verdict, its number, the report, and the output (R-6.7)
+-- what is answered: the outcome, how the accepted verdicts stand, and a move
+abbrev pub answered : Written → Standing → Move → Stepped
+answered w standing m =
+    record { outcome = w; state = record { step = m .next }; given = m .given; report = m .report; standing = standing }
+
+-- what a step owes: the count, the state, the verdict, its number, the report, how the accepted verdicts stand, and the output
+-- (R-6.7, R-6.11)
 pub record Steps (o : Outcome Sent) (step : Step) (r : Stepped) (out out′ : List ℕ) : Type 0 where
   pub answers : writtenAs (r .outcome) ≡ mapDone (λ x. length (x .string)) o
   pub state : r .state .step ≡ moveOf step o .next
   pub gave : r .given ≡ moveOf step o .given
   pub numbers : givenAs (r .given) ≡ givenAs (moveOf step o .given)
   pub reports : r .report ≡ moveOf step o .report
+  pub stands : r .standing ≡ standingOf step o
   pub leaves : out′ ≡ overlay (output (mapDone (λ x. x .string) o)) out

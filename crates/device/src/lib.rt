@@ -2,10 +2,13 @@
 pub mod job;
 pub mod range;
 mod reaction;
+pub mod settling;
 pub mod state;
 pub mod step;
 mod string;
 
+pub use settling::Standing;
+pub use state::Confirmation;
 pub use state::Given;
 pub use state::Place;
 pub use state::Report;

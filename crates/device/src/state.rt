@@ -1,4 +1,5 @@
 // The entry device's settings, its saved state, and what a step answers.
+use crate::settling::Standing;
 use line::Password;
 use line::Written;
 use reply::Reply;
@@ -12,6 +13,16 @@ pub struct Settings {
     pub retries: usize,
     // How a transaction is cut into blocks.
     pub way: Way,
+    // When an accepted verdict stands.
+    pub confirmation: Confirmation,
+}
+
+// When an accepted verdict stands.
+pub enum Confirmation {
+    // As soon as it is given.
+    Early,
+    // Once the close is answered with ESC EOT; any other stop leaves it in doubt.
+    Late,
 }
 
 // Which block of which transaction is waited for, both from 0, and how often the string was sent.
@@ -47,6 +58,8 @@ pub enum Verdict {
     Deferred,
     // 5: never sent (unsent).
     Unsent,
+    // 6: was accepted, and the close did not confirm it (document 02's in doubt).
+    InDoubt,
 }
 
 // The number of a verdict.
@@ -59,6 +72,7 @@ pub fn verdict_number(verdict: Verdict) -> u8
         Verdict::Unconfirmed => 3,
         Verdict::Deferred => 4,
         Verdict::Unsent => 5,
+        Verdict::InDoubt => 6,
     }
 }
 
@@ -74,10 +88,12 @@ pub enum Report {
     Nothing,
 }
 
-// The bytes put out, or the refusal; the state behind the step; what it gives and reports.
+// The bytes put out, or the refusal; the state behind the step; what it gives and reports; and, at
+// the stop, what becomes of the accepted verdicts given before.
 pub struct Stepped {
     pub outcome: Written,
     pub state: State,
     pub given: Given,
     pub report: Report,
+    pub standing: Standing,
 }

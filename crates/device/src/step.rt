@@ -8,6 +8,8 @@ use crate::reaction::Move;
 use crate::reaction::first;
 use crate::reaction::goes;
 use crate::reaction::moves;
+use crate::settling::Standing;
+use crate::settling::standing_after;
 use crate::state::Settings;
 use crate::state::State;
 use crate::state::Step;
@@ -44,9 +46,19 @@ pub fn start(settings: Settings, job: &[u8], out: &mut [u8]) -> Stepped
     match test(settings, Step::Stopped, job, out.len()) {
         Surveyed::Found(found) => {
             let here = found.here;
-            send(settings, part(job, here), goes(Step::Opening(first())), out)
+            send(
+                settings,
+                part(job, here),
+                Step::Stopped,
+                goes(Step::Opening(first())),
+                out,
+            )
         }
-        Surveyed::Refused(refusal) => answer(Written::Refused(refusal), goes(Step::Stopped)),
+        Surveyed::Refused(refusal) => answer(
+            Written::Refused(refusal),
+            Standing::Open,
+            goes(Step::Stopped),
+        ),
     }
 }
 
@@ -64,9 +76,9 @@ pub fn step(state: State, settings: Settings, job: &[u8], reply: &[u8], out: &mu
             let here = found.here;
             let next = moves(settings, count, part(job, here), step, read(reply));
             let extent = extent_for(found, step, next);
-            send(settings, part(job, extent), next, out)
+            send(settings, part(job, extent), step, next, out)
         }
-        Surveyed::Refused(refusal) => answer(Written::Refused(refusal), goes(step)),
+        Surveyed::Refused(refusal) => answer(Written::Refused(refusal), Standing::Open, goes(step)),
     }
 }
 
@@ -125,8 +137,9 @@ fn extent_for(found: Located, step: Step, next: Move) -> Extent
     found.next
 }
 
-// A move, with the string of the step that it leads to, whose transaction has this information.
-fn send(settings: Settings, info: &[u8], next: Move, out: &mut [u8]) -> Stepped
+// A move from a step, with the string of the step that it leads to, whose transaction has this
+// information.
+fn send(settings: Settings, info: &[u8], step: Step, next: Move, out: &mut [u8]) -> Stepped
     requires { ⌜
         (passwordInRange (settings .password) ≡ true)
         × ((job : List (List ℕ)) × Waits settings job (next .step) (now info))
@@ -134,17 +147,21 @@ fn send(settings: Settings, info: &[u8], next: Move, out: &mut [u8]) -> Stepped
         ⌝ }
     ensures { λ r. ⌜
         ((job : List (List ℕ)) → Waits settings job (next .step) (now (info .entry)) →
-        Steps (done (sent settings job (moveAs next))) Variants.Stopped r (now (out .entry)) (now (out .exit)))
+        Steps (done (sent settings job (moveAs next))) step r (now (out .entry)) (now (out .exit)))
         ⌝ }
 {
-    let step = next.step;
-    let n = put_string(settings, info, step, out);
-    answer(Written::Count(n), next)
+    let following = next.step;
+    let n = put_string(settings, info, following, out);
+    answer(
+        Written::Count(n),
+        standing_after(settings, step, next),
+        next,
+    )
 }
 
-// What the call comes to, and the move.
-fn answer(outcome: Written, next: Move) -> Stepped
-    ensures { λ r. ⌜ r ≡ answered outcome (moveAs next) ⌝ }
+// What the call comes to, how the accepted verdicts stand, and the move.
+fn answer(outcome: Written, standing: Standing, next: Move) -> Stepped
+    ensures { λ r. ⌜ r ≡ answered outcome standing (moveAs next) ⌝ }
 {
     let step = next.step;
     let given = next.given;
@@ -154,5 +171,6 @@ fn answer(outcome: Written, next: Move) -> Stepped
         state: State { step },
         given,
         report,
+        standing,
     }
 }

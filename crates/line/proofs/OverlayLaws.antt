@@ -2,11 +2,11 @@
 use mathlib.Core.List.{List, [], _∷_, _++_, map, append-assoc, append-nil}
 use mathlib.Core.Path.{_≡_, refl, sym, ap, _∙_}
 use Prim.Native.Nat.{ℕ, zero, suc, _+_, _-_, _≤_, _<_}
-use native.Mathlib.Nat.{not-suc-le-zero, le-of-suc-le-suc}
+use native.Mathlib.Nat.{add-zero, not-suc-le-zero, le-of-suc-le-suc}
 use native.Mathlib.Numerals.{add-one}
 use native.Mathlib.Omega.{arith}
 use lib.ListN.{length, getD, take, drop, set, take-append-drop, length-append, length-drop, length-map, drop-of-length-le}
-use lib.Seq.{drop-cons, take-all, take-suc, set-at, take-at, drop-at, length-take-le, drop-drop}
+use lib.Seq.{drop-cons, take-all, take-suc, set-at, take-at, drop-at, length-take-le, drop-drop, getD-append-add, getD-drop}
 use Rattle.line.specs.Answer.{Outcome, done, refused, overlay, writtenAs, Wrote, refusalNumber}
 use Rattle.line.specs.declared.answer.Refusal.{Refusal}
 use Rattle.line.specs.declared.answer.Written.{Written}
@@ -60,6 +60,14 @@ module _ (f : ℕ → ℕ) (xs m : List ℕ) (i : ℕ) (out : List ℕ) (laid : 
       rw (laid, add-one, take-suc (map f xs) i 0 k, e, ← getD-map f xs i h)
       (overlay-snoc (take i (map f xs)) m i (getD (map f xs) i 0) (length-take-le i (map f xs) (omega arith)) (omega arith))
 
+  -- the bytes ahead are still the memory's
+  pub laid-ahead : i ≤ length xs → getD out i 0 ≡ getD m i 0
+  unfolding overlay
+  laid-ahead h =
+      let long : length (take i (map f xs)) ≡ i = length-take-le i (map f xs) (rw (length-map xs f) h) in
+      let ahead = getD-append-add (take i (map f xs)) (drop i m) 0 0 ∙ getD-drop i m 0 0 in
+      rw (laid, long) (simp add-zero at (rw long at ahead))
+
   -- after the last turn the whole list is there
   pub laid-whole : length xs ≤ i → out ≡ overlay (map f xs) m
   laid-whole h = laid ∙ rw (take-all i (map f xs) (rw (length-map xs f) h))
@@ -68,6 +76,13 @@ module _ (f : ℕ → ℕ) (xs m : List ℕ) (i : ℕ) (out : List ℕ) (laid : 
 pub map-self : (xs : List ℕ) → map (λ x. x) xs ≡ xs
 map-self [] = refl
 map-self (x ∷ xs) = ap (λ l. x ∷ l) (map-self xs)
+
+-- bytes as long as the memory lie over all of it
+pub overlay-whole : (a m : List ℕ) → length a ≡ length m → a ≡ overlay a m
+unfolding overlay
+overlay-whole a m h =
+    let none : length m ≤ length a = omega arith in
+    rw (drop-of-length-le m none, append-nil)
 
 -- a writer was lent the memory from the end of a on, and laid b over it
 pub overlay-part : (a b m : List ℕ) (n k : ℕ) → length a ≡ n → length a + length b ≤ length m → k ≡ length m - n →

@@ -1,7 +1,9 @@
 // A call in memory: a table of numbers, then the bytes of every word, one word behind the other. The
 // number at an index is where the word at that index begins, and the next one where it ends; there is
 // room for 31. The letter, the word at 0, begins where the table ends: the number at 0 is that of the
-// arguments. A capital letter makes the call of the small one, and cuts into whole fields.
+// arguments. A capital letter makes the call of the small one, and cuts into whole fields. A letter with
+// bit 7 set makes the call of the one without it, with an entry device that confirms late.
+use device::Confirmation;
 use segmentation::Way;
 use std::num::wrapping_add_u8;
 use std::num::wrapping_add_u16;
@@ -40,10 +42,18 @@ pub(crate) fn letter_of(call: &[u8]) -> u8 {
 
 // The way of cutting that the letter names.
 pub(crate) fn way_of(call: &[u8]) -> Way {
-    if byte(call, LETTER) < b'a' {
+    if byte(call, LETTER) % 128 < b'a' {
         return Way::WholeFields;
     }
     Way::Filled
+}
+
+// When an accepted verdict stands, as the letter names it.
+pub(crate) fn confirmation_of(call: &[u8]) -> Confirmation {
+    if byte(call, LETTER) < 0x80 {
+        return Confirmation::Early;
+    }
+    Confirmation::Late
 }
 
 // The text that the call is on: its last argument.

@@ -13,6 +13,9 @@ use crate::argument::part;
 use crate::argument::text;
 use crate::argument::way_of;
 use crate::argument::word;
+use crate::driver::print_driver;
+use crate::driver::print_settled;
+use crate::driver::transactions;
 use crate::ends::PAGERS;
 use crate::ends::list_pagers;
 use crate::ends::print_conversation;
@@ -32,6 +35,8 @@ use block::checksum::check_characters;
 use block::checksum::checksum;
 use block::checksum::sum_characters;
 use block::frame::information;
+use device::Verdict;
+use device::state::verdict_number;
 use journal::Step;
 use journal::buffer::BUFFER;
 use journal::cursor::RECORDS;
@@ -126,15 +131,29 @@ fn loan_of(call: &[u8]) -> Loan
             room: number(call, 10),
             filler: 0,
         },
+        b'l' => Loan {
+            size: 512,
+            word: 0,
+            room: transactions(call),
+            filler: verdict_number(Verdict::Unsent),
+        },
         b'e' => output_of(512),
         b'g' => output_of(number(call, 8)),
         b'm' => output_of(number(call, ROOM)),
-        _ => Loan {
-            size: number(call, 1),
-            word: 2,
-            room: 0,
-            filler: 0,
-        },
+        b'i' => memory_of(text(call).len() % 65536),
+        _ => memory_of(number(call, 1)),
+    }
+}
+
+// Memory of a size, with the second argument at its start, and no output.
+fn memory_of(size: usize) -> Loan
+    ensures { λ r. ⌜ (r .size ≡ size) × (r .room ≡ 0) ⌝ }
+{
+    Loan {
+        size,
+        word: 2,
+        room: 0,
+        filler: 0,
     }
 }
 
@@ -156,7 +175,9 @@ fn print_lent(call: &[u8], pagers: &[u32], memory: &mut [u8], out: &mut [u8]) {
         b'd' | b'f' => print_conversation(call, pagers, memory, out),
         b'u' => print_run(call, pagers, memory, out),
         b'e' | b'g' => print_play(call, out),
+        b'l' => print_driver(call, memory, out),
         b'm' => print_framing(call, out),
+        b'i' => print_settled(call, memory),
         _ => print_output(call, memory),
     }
 }
@@ -188,10 +209,11 @@ fn write(call: &[u8], text: &[u8], memory: &mut [u8]) -> Written {
 }
 
 // The number of blocks before all blocks of a transaction, a journal by its digest, what an end of
-// the line puts out without its length.
+// the line puts out without its length, and not at all to a driver.
 fn print_written(call: &[u8], written: &[u8]) {
     match letter_of(call) {
         b'd' | b'e' | b'f' | b'g' => print_bytes(NOTHING, written),
+        b'l' => {}
         b's' => {
             print_number(NOTHING, block_count(way_of(call), text(call)));
             print_blocks(names::COLON, way_of(call), written);

@@ -5,6 +5,7 @@ use crate::answer::print_number;
 use crate::answer::reply_name;
 use crate::argument::COUNT;
 use crate::argument::byte;
+use crate::argument::confirmation_of;
 use crate::argument::letter_of;
 use crate::argument::number;
 use crate::argument::number_at;
@@ -34,7 +35,7 @@ const JOURNAL: u8 = 5;
 const CENTRAL: u8 = 12;
 
 // Which argument the job is: the last before the replies, or before the device's state.
-const JOB: u8 = 3;
+pub(crate) const JOB: u8 = 3;
 
 // Which argument is the last before the replies, where the device's state is given.
 const DEVICE: u8 = 8;
@@ -198,9 +199,9 @@ fn stage_name(stage: Stage) -> u8 {
 // ── The entry device ──
 
 // The state before the first reply, and which argument is the last before it.
-struct Begun {
-    state: device::State,
-    before: u8,
+pub(crate) struct Begun {
+    pub(crate) state: device::State,
+    pub(crate) before: u8,
 }
 
 // What the entry device sends first, or why it does not start; and what it does with each reply.
@@ -220,7 +221,7 @@ pub(crate) fn print_play(call: &[u8], string: &mut [u8]) {
 }
 
 // From the start, or from the state that the call gives.
-fn begin(call: &[u8], string: &mut [u8]) -> Begun {
+pub(crate) fn begin(call: &[u8], string: &mut [u8]) -> Begun {
     let started = device::step::start(device_settings(call, 1), word(call, JOB), string);
     let outcome = started.outcome;
     let state = started.state;
@@ -253,12 +254,14 @@ fn saved_device(call: &[u8]) -> Begun {
     }
 }
 
-// The entry device's settings: the password at an index, the retry limit behind it, and the way.
+// The entry device's settings: the password at an index, the retry limit behind it, and what the
+// letter names.
 pub(crate) fn device_settings(call: &[u8], index: u8) -> device::Settings {
     device::Settings {
         password: password(word(call, index)),
         retries: number(call, wrapping_add_u8(index, 1)),
         way: way_of(call),
+        confirmation: confirmation_of(call),
     }
 }
 

@@ -4,6 +4,7 @@
 mod answer;
 mod argument;
 mod calls;
+mod driver;
 mod ends;
 mod framing;
 mod names;

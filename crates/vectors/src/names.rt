@@ -63,17 +63,24 @@ pub(crate) const STOPPED: u8 = 28;
 
 pub(crate) const UNREPORTED: u8 = 29;
 
+pub(crate) const OPEN: u8 = 30;
+
+pub(crate) const CONFIRMED: u8 = 31;
+
+pub(crate) const IN_DOUBT: u8 = 32;
+
 // How many characters of the table each has, of which a `|` ends it.
 const WIDTH: usize = 14;
 
-const NAMES: [u8; 420] = *b"|              |            , |           : |           \
+const NAMES: [u8; 462] = *b"|              |            , |           : |           \
 =|            -|            \n|            refused |     \
 unrecognized| id request|   acceptance|   ack|          \
 nak|          rs|           eot|          end|          \
 x |           b |           u |            part|        \
 \x20whole|       , idle |      , logon |     , block |     \
 , closed |    , opening |   , sending |   , closing |   \
-, stopped|    , -|          ";
+, stopped|    , -|          o|            c|            \
+d|            ";
 
 // One of them.
 pub(crate) fn say(name: u8) {

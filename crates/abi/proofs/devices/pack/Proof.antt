@@ -21,6 +21,9 @@ transaction-in-requires c κs = search needs
 report-number-requires : tie.Need-report-number-requires
 report-number-requires c κs = search needs
 
+standing-number-requires : tie.Need-standing-number-requires
+standing-number-requires c κs = search needs
+
 enum-known-outcome : tie.Need-enum-known-outcome
 enum-known-outcome c = search needs
 
@@ -28,7 +31,9 @@ refuse-requires : tie.Need-refuse-requires
 refuse-requires c κs = search needs
 
 returns : tie.Need-returns
-returns c = rw (c .report-number .ensures, c .before .transaction-in .ensures, c .before .before .verdict-in .ensures, c .before .before .before .record-of .ensures, c .before .before .before .before .of-written .ensures, c .before .before .before .before .before .enum-told .given .1)
+returns c =
+    let t = c .before in
+    rw (c .standing-number .ensures, t .report-number .ensures, t .before .transaction-in .ensures, t .before .before .verdict-in .ensures, t .before .before .before .record-of .ensures, t .before .before .before .before .of-written .ensures, t .before .before .before .before .before .enum-told .given .1)
 
 returns-2 : tie.Need-returns-2
 returns-2 c = rw (c .refuse .ensures, c .before .before .outcome .given .1)
@@ -43,6 +48,7 @@ pack-spec =
     verdict-in-requires
     transaction-in-requires
     report-number-requires
+    standing-number-requires
     enum-known-outcome
     refuse-requires
     returns

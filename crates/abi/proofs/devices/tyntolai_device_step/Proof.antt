@@ -1,7 +1,8 @@
--- `tyntolai_device_step` meets its contract: a record with no step and settings with no way are refused, else the step that it is goes on.
-use borrow.Author.Tests.{lt-ltb, le-ltb}
+-- `tyntolai_device_step` meets its contract: a record with no step and settings with a number that is none are refused, else the step that it is goes on.
+use mathlib.Core.Path.{sym, _∙_}
+use borrow.Author.Tests.{lt-ltb, le-ltb, not-true, not-false}
 use Rattle.abi.specs.Devices.{deviceStepped}
-use Rattle.abi.specs.Settings.{ofWay}
+use Rattle.abi.specs.Settings.{ofSettings}
 use Rattle.abi.proofs.CallerLaws.{device-refused, device-steps}
 use borrow.Author.Needs.{needs}
 use Rattle.abi.proofs.devices.tyntolai_device_step.Statement.{statement}
@@ -14,12 +15,17 @@ returns : tie.Need-returns
 unfolding deviceStepped
 returns c = rw (lt-ltb 4 _ (c .before .if1 .taken)) (device-refused _ (c .refuse .ensures))
 
+has-numbers-requires : tie.Need-has-numbers-requires
+has-numbers-requires c κs = search needs
+
 refuse-requires-2 : tie.Need-refuse-requires-2
 refuse-requires-2 c κs = search needs
 
 returns-2 : tie.Need-returns-2
-unfolding deviceStepped ofWay
-returns-2 c = rw (le-ltb 4 _ (c .before .before .before .if1 .left), lt-ltb 1 _ (c .before .if2 .taken)) (device-refused _ (c .refuse2 .ensures))
+unfolding deviceStepped ofSettings
+returns-2 c =
+    let d = c .before .before in
+    rw (le-ltb 4 _ (d .before .if1 .left), sym (d .has-numbers .ensures) ∙ not-true _ (c .before .if2 .taken)) (device-refused _ (c .refuse2 .ensures))
 
 step-of-requires : tie.Need-step-of-requires
 step-of-requires c κs = search needs
@@ -37,12 +43,13 @@ same-length : tie.Need-same-length
 same-length c = search needs
 
 returns-3 : tie.Need-returns-3
-unfolding deviceStepped ofWay
+unfolding deviceStepped ofSettings
 returns-3 c =
     let t = c .before .before .before in
     let g = t .before .before .before in
-    rw (le-ltb 4 _ (g .before .before .before .if1 .left), le-ltb 1 _ (g .before .if2 .left))
-    (device-steps _ _ (rw (g .step-of .ensures, t .before .before .settings-of .ensures) at (t .step .ensures)) (c .pack .ensures))
+    let d = g .before .before in
+    rw (le-ltb 4 _ (d .before .if1 .left), sym (d .has-numbers .ensures) ∙ not-false _ (g .before .if2 .left))
+    (device-steps _ (rw (g .step-of .ensures, t .before .before .settings-of .ensures) at (t .step .ensures)) (c .pack .ensures))
 
 pub tyntolai-device-step-spec : {M : Type 1} → statement M
 tyntolai-device-step-spec =
@@ -50,6 +57,7 @@ tyntolai-device-step-spec =
     (tie.spec
     refuse-requires
     returns
+    has-numbers-requires
     refuse-requires-2
     returns-2
     step-of-requires

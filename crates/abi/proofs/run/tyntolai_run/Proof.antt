@@ -1,17 +1,21 @@
--- `tyntolai_run` meets its contract: device settings with no way are refused, else it is the run, and its answer in numbers.
-use borrow.Author.Tests.{lt-ltb, le-ltb}
-use Rattle.abi.specs.Settings.{ofWay}
+-- `tyntolai_run` meets its contract: device settings with a number that is none are refused, else it is the run, and its answer in numbers.
+use mathlib.Core.Path.{sym, _∙_}
+use borrow.Author.Tests.{not-true, not-false}
+use Rattle.abi.specs.Settings.{ofSettings}
 use Rattle.abi.proofs.CallerLaws.{run-refused, runs}
 use borrow.Author.Needs.{needs}
 use Rattle.abi.proofs.run.tyntolai_run.Statement.{statement}
 use Rattle.abi.proofs.run.tyntolai_run.Tie as tie
 
+has-numbers-requires : tie.Need-has-numbers-requires
+has-numbers-requires c κs = search needs
+
 pack-totals-requires : tie.Need-pack-totals-requires
 pack-totals-requires c κs = search needs
 
 returns : tie.Need-returns
-unfolding ofWay
-returns c = rw (lt-ltb 1 _ (c .before .if1 .taken)) (run-refused _ _ (c .pack-totals .ensures))
+unfolding ofSettings
+returns c = rw (sym (c .before .before .has-numbers .ensures) ∙ not-true _ (c .before .if1 .taken)) (run-refused _ _ (c .pack-totals .ensures))
 
 settings-of-requires : tie.Need-settings-of-requires
 settings-of-requires c κs = search needs
@@ -32,16 +36,19 @@ same-length-2 : tie.Need-same-length-2
 same-length-2 c = search needs
 
 returns-2 : tie.Need-returns-2
-unfolding ofWay
+unfolding ofSettings
 returns-2 c =
     let t = c .before .before .before .before .before in
     let g = t .before .before .before in
-    rw (le-ltb 1 _ (g .before .before .if1 .left)) (runs (rw (g .settings-of2 .ensures, g .before .settings-of .ensures) at (t .run .ensures)) (c .pack-totals2 .ensures))
+    let d = g .before .before in
+    rw (sym (d .before .has-numbers .ensures) ∙ not-false _ (d .if1 .left))
+    (runs (rw (g .settings-of2 .ensures, g .before .settings-of .ensures) at (t .run .ensures)) (c .pack-totals2 .ensures))
 
 pub tyntolai-run-spec : {M : Type 1} → statement M
 tyntolai-run-spec =
     tie.close
     (tie.spec
+    has-numbers-requires
     pack-totals-requires
     returns
     settings-of-requires

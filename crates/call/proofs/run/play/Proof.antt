@@ -1,4 +1,4 @@
--- `play` meets its contract: between two transmissions the saved states hold what is left of the run, each transmission leaves the device fewer, and with no string the run has come to its end.
+-- `play` meets its contract: between two transmissions the saved states hold what is left of the run, each transmission leaves the device fewer, and with no string the run has come to its end, and the verdicts are settled as the device said.
 use mathlib.Core.Path.{_≡_, refl, _∙_}
 use mathlib.Core.Bool.{true}
 use mathlib.Core.List.{[]}
@@ -38,42 +38,49 @@ fault-at-requires c κs = search needs
 exchange-requires : tie.Need-exchange-requires Inv-loop μ-loop
 exchange-requires c κs =
     let g = c .before .before .before .before .before .before .before .loop .inv .5 in
-    underway _ _ g
+    underway _ _ g (omega (arith, c .before .before .before .before .before .if1 .taken))
 
 add-transmissions : tie.Need-add-transmissions Inv-loop μ-loop
 add-transmissions c =
-    let g = c .before .before .before .before .before .before .before .before .before .before .before .before .before .before .before .before .loop .inv .5 in
-    let s = c .before .before .before .before .before .before .before .before .before .before .before .before .before .before .before .before .before .before .before .before .before .before .before .before in
-    omega (arith, g .bounded, sound-few [] (s .pre .sound) (all-bytes _ (c .before .before .before .before .before .before .before .before .before .before .before .before .before .before .before .before .before .before .before .before .before .before .before .shared-slice-known .given)))
+    let l = c .before .before .before .before .before .before .before .before .before .before .before .before .before .before .before .before in
+    let first = l .before .before .before .before .before .before .before in
+    omega (arith, l .loop .inv .5 .bounded, sound-few [] (first .before .pre .sound) (all-bytes _ (first .shared-slice-known .given)))
 
 loop-less : tie.Need-loop-less Inv-loop μ-loop
 loop-less c =
-    let g = c .before .before .before .before .before .before .before .before .before .before .before .before .before .before .before .before .loop .inv .5 in
-    going-less _ _ g (omega (arith, c .before .before .before .before .before .before .before .before .before .before .before .before .before .before .if1 .taken)) (c .before .before .before .before .before .before .before .before .before .before .before .before .before .fault-at .ensures) (c .before .before .before .before .before .before .before .before .exchange .ensures (underway _ _ g))
+    let x = c .before .before .before .before .before .before .before .before in
+    let f = x .before .before .before .before .before in
+    going-less _ _ (f .before .before .before .loop .inv .5) (omega (arith, f .before .if1 .taken)) (f .fault-at .ensures) (x .exchange .ensures)
 
 loop-again : tie.Need-loop-again Inv-loop μ-loop
 loop-again c =
-    let l = c .before .before .before .before .before .before .before .before .before .before .before .before .before .before .before .before .loop in
-    let g = l .inv .5 in
-    let next = going-on _ _ g (omega (arith, c .before .before .before .before .before .before .before .before .before .before .before .before .before .before .if1 .taken)) (c .before .before .before .before .before .before .before .before .before .before .before .before .before .fault-at .ensures) (c .before .before .before .before .before .before .before .before .exchange .ensures (underway _ _ g)) in
+    let x = c .before .before .before .before .before .before .before .before in
+    let f = x .before .before .before .before .before in
+    let l = f .before .before .before .loop in
+    let next = going-on _ _ (l .inv .5) (omega (arith, f .before .if1 .taken)) (f .fault-at .ensures) (x .exchange .ensures) in
     (c .before .before .before .before .before .before .before .journal .given ∙ l .inv .0, c .before .before .before .before .before .pending .given ∙ l .inv .1, c .before .before .before .memory .given ∙ l .inv .2, c .before .verdicts .given ∙ l .inv .3, all-bytes _ (c .before .before .before .before .before .before .slice-known5 .given), next)
 
+settle-requires : tie.Need-settle-requires Inv-loop μ-loop
+settle-requires c κs = search needs
+
 same-length : tie.Need-same-length Inv-loop μ-loop
-same-length c = c .before .before .loop .inv .0
+same-length c = c .before .before .before .before .before .before .loop .inv .0
 
 same-length-2 : tie.Need-same-length-2 Inv-loop μ-loop
-same-length-2 c = c .before .before .loop .inv .1
+same-length-2 c = c .before .before .before .before .before .before .loop .inv .1
 
 same-length-3 : tie.Need-same-length-3 Inv-loop μ-loop
-same-length-3 c = c .before .before .loop .inv .2
+same-length-3 c = c .before .before .before .before .before .before .loop .inv .2
 
 same-length-4 : tie.Need-same-length-4 Inv-loop μ-loop
-same-length-4 c = c .before .before .loop .inv .3
+same-length-4 c = c .before .verdicts2 .given ∙ c .before .before .before .before .before .before .loop .inv .3
 
 returns : tie.Need-returns Inv-loop μ-loop
 returns c =
-    let l = c .before .before .loop in
-    going-ends _ _ (l .inv .5) (omega (arith, c .if1 .left)) (l .inv .4)
+    let settled = c .before .before in
+    let e = settled .before .before in
+    let l = e .before .before .loop in
+    going-ends _ _ (l .inv .5) (omega (arith, e .if1 .left)) (l .inv .4) (settled .settle .ensures)
 
 pub play-spec : {M : Type 1} → statement M
 play-spec =
@@ -87,6 +94,7 @@ play-spec =
     add-transmissions
     loop-less
     loop-again
+    settle-requires
     same-length
     same-length-2
     same-length-3

@@ -9,6 +9,7 @@ use Rattle.journal.proofs.EncodingLaws.{decode-legal}
 use Rattle.device.specs.Inner.{Waits}
 use Rattle.device.specs.Reaction.{goes}
 use Rattle.device.specs.Step.{answered, tested}
+use Rattle.device.specs.declared.settling.Standing.the-variants.{Open}
 use Rattle.device.specs.declared.state.Step.the-variants.{Opening, Stopped}
 use Rattle.device.proofs.StepLaws.{Passes, surveyed-passes, surveyed-refused, started-refused, started-done, steps-refused, steps-sent}
 use Rattle.device.proofs.WaitLaws.{here-lies}
@@ -89,7 +90,7 @@ returns-2 : tie.Need-returns-2
 returns-2 c =
     let r = c .before .before .before in
     let a = r .before .before .before .before .before .args in
-    steps-refused _ Stopped _ _ (started-refused (a .settings) (a .job .now) _ _ (surveyed-refused (a .settings) Stopped (a .job .now) _ (r .before .before .test .ensures) (r .refusal .given .1))) refl (c .answer .ensures ∙ ap (answered _) (c .before .goes2 .ensures))
+    steps-refused _ Stopped _ _ (started-refused (a .settings) (a .job .now) _ _ (surveyed-refused (a .settings) Stopped (a .job .now) _ (r .before .before .test .ensures) (r .refusal .given .1))) refl (c .answer .ensures ∙ ap (answered _ Open) (c .before .goes2 .ensures))
 
 pub start-spec : {M : Type 1} → statement M
 start-spec =

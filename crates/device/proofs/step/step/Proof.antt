@@ -12,6 +12,7 @@ use Rattle.device.specs.Reaction.{moveAs, moves}
 use Rattle.device.specs.Step.{answered, tested}
 use Rattle.device.proofs.MoveLaws.{moves-lead}
 use Rattle.device.proofs.PlaceLaws.{moves-exist}
+use Rattle.device.specs.declared.settling.Standing.the-variants.{Open}
 use Rattle.device.proofs.StepLaws.{Passes, surveyed-passes, surveyed-refused, stepped-refused, stepped-done, steps-refused, steps-sent}
 use Rattle.device.proofs.WaitLaws.{here-lies, leads-near, near, near-lies, sends-own}
 use borrow.Author.Needs.{needs}
@@ -149,7 +150,7 @@ returns-2 : tie.Need-returns-2
 returns-2 c =
     let r = c .before .before .before in
     let a = r .before .before .before .before .before .before .args in
-    steps-refused _ (a .state .step) _ _ (stepped-refused (a .state) (a .settings) (a .job .now) (a .reply .now) _ _ (surveyed-refused (a .settings) (a .state .step) (a .job .now) _ (r .before .before .test .ensures) (r .refusal .given .1))) refl (c .answer .ensures ∙ ap (answered _) (c .before .goes .ensures))
+    steps-refused _ (a .state .step) _ _ (stepped-refused (a .state) (a .settings) (a .job .now) (a .reply .now) _ _ (surveyed-refused (a .settings) (a .state .step) (a .job .now) _ (r .before .before .test .ensures) (r .refusal .given .1))) refl (c .answer .ensures ∙ ap (answered _ Open) (c .before .goes .ensures))
 
 pub step-spec : {M : Type 1} → statement M
 step-spec =
