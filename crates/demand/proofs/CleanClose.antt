@@ -40,7 +40,7 @@ use Rattle.demand.proofs.Stops.{run-stops}
 abbrev Goes : Move → Type 0
 Goes m = isStopped (m .next) ≡ false
 
--- one that stops, and with a report of ESC EOT
+-- one that, where it stops, reports ESC EOT
 abbrev Leaves : Move → Type 0
 Leaves m = isStopped (m .next) ≡ true → m .report ≡ Reporting.Close (Recognized Eot)
 
