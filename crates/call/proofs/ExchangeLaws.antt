@@ -68,7 +68,7 @@ module _ {s : Setup} {saved : Saved} {buffer pending memory verdicts : List ℕ}
   heard = arrives (fault / 3) (take (saved .count) memory)
 
   -- the device has not stopped: it has put out a string
-  goes-on : isStopped (u .ends .step) ≡ false
+  pub goes-on : isStopped (u .ends .step) ≡ false
   goes-on = go (isStopped (u .ends .step)) refl
     where
       go : (c : Bool) → isStopped (u .ends .step) ≡ c → isStopped (u .ends .step) ≡ false

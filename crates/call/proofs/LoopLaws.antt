@@ -1,5 +1,5 @@
 -- The run's loop: what holds between two transmissions, that each keeps it, and that it has come to the end once the device puts out no string.
-use mathlib.Core.Bool.{Bool, true, and-eq-true-iff}
+use mathlib.Core.Bool.{Bool, true, false≢true, and-eq-true-iff}
 use mathlib.Core.List.{List, [], _∷_, _++_, map, tail}
 use mathlib.Core.Logic.{_⊎_, inl, inr}
 use mathlib.Core.Path.{_≡_, refl, sym, ap, _∙_}
@@ -35,7 +35,7 @@ use Rattle.device.proofs.SettlingLaws.{numbers-settled}
 use Rattle.device.proofs.StepLaws.{settings-parts}
 use Rattle.device.specs.Bound.{jobBlocks, transmissionsLeft}
 use Rattle.device.specs.Reaction.{segmentIn, stringBytes, verdictNumber}
-use Rattle.device.specs.Settling.{settledNumbers}
+use Rattle.device.specs.Settling.{isStopped, settledNumbers}
 use Rattle.device.specs.declared.state.Settings as DeviceSettings
 use Rattle.device.specs.declared.state.Step.{Step}
 use Rattle.device.specs.declared.state.Step.the-variants.{Opening, Logon, Sending, Closing, Stopped}
@@ -51,6 +51,7 @@ use Rattle.call.specs.Driver.{Sound, jobOf, inputsFrom}
 use Rattle.call.specs.Inner.{Exchanged, Exchanges, Plays, Stands, Underway}
 use Rattle.call.specs.declared.exchange.Saved.{Saved}
 use Rattle.call.proofs.DriverLaws.{sound-ranged}
+use Rattle.call.proofs.ExchangeLaws.{goes-on}
 
 -- ── The journal grows ──
 
@@ -208,9 +209,7 @@ module _ (s : Setup) (first : Transactions) where
             left e = transmissionsLeft (s .device) (jobOf s) (e .step)
 
             go : (g .ends .step ≡ Stopped) ⊎ (left next < left (g .ends)) → left next < left (g .ends)
-            go (inl stopped) =
-                let silent : length (string i (g .ends)) ≡ 0 = rw stopped in
-                absurd (omega (arith, string-long, some))
+            go (inl stopped) = absurd (false≢true (sym (goes-on (underway g some) fault) ∙ ap isStopped stopped))
             go (inr falls) = falls
 
         -- and is counted

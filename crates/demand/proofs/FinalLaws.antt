@@ -10,10 +10,11 @@ use lib.ListN.{length, List·getD-map}
 use Rattle.line.proofs.OutcomeLaws.{choice}
 use Rattle.reply.specs.Reading.{replyRead}
 use Rattle.reply.specs.declared.Reply.{Reply}
+use Rattle.device.proofs.BoundLaws.{blocks-alike}
 use Rattle.device.proofs.MoveLaws.{Leads, requested, reopens, unanswered, admitted, relogs, turned-away, accepted, continued, resends, exhausted, rejected, hung-up, unconfirmed, recloses, reported, stays, moves-lead}
-use Rattle.device.proofs.SettlingLaws.{blocks-confirmed, confirmed-stands, early-stands, moves-confirmed, moves-unreported, string-confirmed, unsent-settled}
+use Rattle.device.proofs.SettlingLaws.{confirmed-stands, early-stands, moves-confirmed, moves-unreported, string-confirmed, unsent-settled}
 use Rattle.device.specs.Reaction.{Move}
-use Rattle.device.specs.Settling.{doubted, isStopped, settled, standingAt}
+use Rattle.device.specs.Settling.{doubted, isStopped, settled, standingAt, withConfirmation}
 use Rattle.device.specs.declared.settling.Standing.{Standing}
 use Rattle.device.specs.declared.settling.Standing.the-variants as Standing
 use Rattle.device.specs.declared.state.Confirmation.{Confirmation}
@@ -27,8 +28,8 @@ use Rattle.device.specs.declared.state.Step.the-variants.{Stopped}
 use Rattle.device.specs.declared.state.Verdict.{Verdict}
 use Rattle.device.specs.declared.state.Verdict.the-variants.{Accepted, Rejected, Unconfirmed, Deferred, Unsent, InDoubt}
 use Rattle.demand.specs.Clean.{cleanVerdicts, matching}
-use Rattle.demand.specs.Demand.{Claim, Fair, Legal, decides, verdictAt}
-use Rattle.demand.specs.Final.{Finals, Settles, confirming, finalVerdicts, pastBlocks, standingIn}
+use Rattle.demand.specs.Demand.{Fair, Legal, decides, verdictAt}
+use Rattle.demand.specs.Final.{Finals, confirming, finalVerdicts, pastBlocks, standingIn}
 use Rattle.demand.specs.Run.{Damage, Damages, Ends, Inputs, Transit, after, answer, exchange, final, follows, hit, mostTransmissions, next, noted, responds, run, start}
 use Rattle.demand.specs.Run as Run
 use Rattle.demand.proofs.Agreement.{decided-clean, decided-early}
@@ -63,7 +64,7 @@ module _ {J : Type 0} (i : Inputs J) (c : Confirmation) where
 
   -- and so is the run
   same-run : (ds : Damages) → final (confirming i c) ds ≡ final i ds
-  same-run ds = rw (blocks-confirmed (i .device) c (i .job)) (after-confirmed (mostTransmissions i) ds (start i))
+  same-run ds = rw (blocks-alike (withConfirmation (i .device) c) (i .device) refl (i .job)) (after-confirmed (mostTransmissions i) ds (start i))
 
 -- ── From the close on ──
 
@@ -156,31 +157,28 @@ settled-decides Standing.InDoubt vs n e =
     let (was, same) = doubted-decides (verdictAt vs n) (ap decides (sym put) ∙ e) in
     (was, put ∙ same)
 
--- a run that is not refused, with fair damage
-module _ {J : Type 0} (i : Inputs J) (l : Legal i) (ds : Damages) (fair : Fair i ds) where
-  -- what is claimed of the final verdicts
-  settles : Settles i ds
-  settles = record { before-close = before; final-clean = clean; early-same = early }
+-- with early nothing is settled
+early-same : {J : Type 0} (i : Inputs J) → i .device .confirmation ≡ Early → (ds : Damages) → finalVerdicts i ds ≡ run i ds .verdicts
+early-same i e ds =
+    let last = final i ds in
+    ap (λ c. settled (standingAt c (last .step) (last .report)) (last .verdicts)) e ∙ early-stands (last .step) (last .report) (last .verdicts)
+
+-- a run that is not refused
+module _ {J : Type 0} (i : Inputs J) (l : Legal i) (ds : Damages) where
+  -- its verdicts are those before the close
+  before-close : (n : ℕ) → pastBlocks (after i n ds (start i) .step) ≡ true → after i n ds (start i) .verdicts ≡ run i ds .verdicts
+  before-close n h = go (ltb n (mostTransmissions i)) refl
     where
-      c : Claim i ds
-      c = claim i l ds fair
+      go : (c : Bool) → ltb n (mostTransmissions i) ≡ c → after i n ds (start i) .verdicts ≡ run i ds .verdicts
+      go true e = sym (after-later i n (mostTransmissions i) ds (start i) (omega (arith, ltb-true n (mostTransmissions i) e)) h)
+      go false e = after-later i (mostTransmissions i) n ds (start i) (ltb-false n (mostTransmissions i) e) (rw (run-stops i (l .job) ds))
 
-      before : (n : ℕ) → pastBlocks (after i n ds (start i) .step) ≡ true → after i n ds (start i) .verdicts ≡ run i ds .verdicts
-      before n h = go (ltb n (mostTransmissions i)) refl
-        where
-          go : (c : Bool) → ltb n (mostTransmissions i) ≡ c → after i n ds (start i) .verdicts ≡ run i ds .verdicts
-          go true e = sym (after-later i n (mostTransmissions i) ds (start i) (omega (arith, ltb-true n (mostTransmissions i) e)) h)
-          go false e = after-later i (mostTransmissions i) n ds (start i) (ltb-false n (mostTransmissions i) e) (rw (run-stops i (l .job) ds))
-
-      clean : (n : ℕ) → decides (verdictAt (finalVerdicts i ds) n) ≡ true → verdictAt (finalVerdicts i ds) n ≡ verdictAt (cleanVerdicts i) n
-      clean n h =
-          let (was, same) = settled-decides (standingIn i (final i ds)) (run i ds .verdicts) n h in
-          same ∙ decided-clean (c .agrees) n (decided-early (c .agrees) n was)
-
-      early : i .device .confirmation ≡ Early → finalVerdicts i ds ≡ run i ds .verdicts
-      early e =
-          let last = final i ds in
-          ap (λ c. settled (standingAt c (last .step) (last .report)) (last .verdicts)) e ∙ early-stands (last .step) (last .report) (last .verdicts)
+  -- with fair damage, what is decided at the end is the clean verdict
+  final-clean : Fair i ds → (n : ℕ) → decides (verdictAt (finalVerdicts i ds) n) ≡ true → verdictAt (finalVerdicts i ds) n ≡ verdictAt (cleanVerdicts i) n
+  final-clean fair n h =
+      let agrees = claim i l ds fair .agrees in
+      let (was, same) = settled-decides (standingIn i (final i ds)) (run i ds .verdicts) n h in
+      same ∙ decided-clean agrees n (decided-early agrees n was)
 
 -- ── A clean line ──
 
@@ -203,6 +201,8 @@ pub finals : {J : Type 0} (i : Inputs J) → Legal i → Finals i
 finals i l =
     record {
       same-run = same-run i;
-      bad-line = settles i l;
+      early-same = early-same i;
+      before-close = before-close i l;
+      final-clean = final-clean i l;
       clean-line = ap (settled (standingIn i (final i []))) (clean-run i l .verdicts-clean) ∙ clean-settled i l;
     }

@@ -10,9 +10,9 @@ use lib.Seq.{take-length}
 use Rattle.line.specs.Transaction.{legal}
 use Rattle.journal.specs.Encoding.{allLegal}
 use Rattle.central.specs.Reaction.{meets, Central}
+use Rattle.device.proofs.BoundLaws.{blocks-alike}
 use Rattle.device.specs.Bound.{jobBlocks}
 use Rattle.device.specs.Reaction.{withRetries, segmentsOf}
-use Rattle.device.specs.declared.state.Settings.{Settings}
 use Rattle.device.specs.declared.state.Step.{Step}
 use Rattle.device.specs.declared.state.Step.the-variants.{Stopped}
 use Rattle.device.specs.declared.state.Verdict.{Verdict}
@@ -88,15 +88,9 @@ module _ {J : Type 0} (i : Inputs J) (l : Legal i) where
   pub well-cut : WellCut (model i) (i .job)
   well-cut = legal-cut i (i .job) (l .job)
 
--- the retry limit does not change how a job is cut
-blocks-same : (settings : Settings) (d : ℕ) (ts : List (List ℕ)) → jobBlocks (withRetries settings d) ts ≡ jobBlocks settings ts
-unfolding jobBlocks segmentsOf
-blocks-same settings d [] = refl
-blocks-same settings d (t ∷ ts) = rw (blocks-same settings d ts)
-
 -- a higher limit D allows as many transmissions
 pub most-more : {J : Type 0} (i : Inputs J) (d c : ℕ) → i .device .retries ≤ d → mostTransmissions i ≤ mostTransmissions (limited i d c)
-most-more i d c h = rw (blocks-same (i .device) d (i .job)) (omega (arith, mul-le-mul-right (jobBlocks (i .device) (i .job) + 2) h))
+most-more i d c h = rw (blocks-alike (withRetries (i .device) d) (i .device) refl (i .job)) (omega (arith, mul-le-mul-right (jobBlocks (i .device) (i .job) + 2) h))
 
 -- a run that is not refused, with fair damage
 module _ {J : Type 0} (i : Inputs J) (l : Legal i) (ds : Damages) (fair : Fair i ds) where

@@ -41,21 +41,16 @@ module _ {J : Type 0} where
   finalVerdicts i ds = settledIn i (final i ds)
 
 -- what is claimed of the final verdicts (R-10.11)
-pub record Settles {J : Type 0} (i : Inputs J) (ds : Damages) : Type 0 where
-  -- the provisional verdicts are those before the close, or behind the stop where a call never comes to it
-  pub before-close : (n : ℕ) → pastBlocks (after i n ds (start i) .step) ≡ true →
-      after i n ds (start i) .verdicts ≡ run i ds .verdicts
-  -- a final accepted or rejected is the clean one
-  pub final-clean : (n : ℕ) → decides (verdictAt (finalVerdicts i ds) n) ≡ true →
-      verdictAt (finalVerdicts i ds) n ≡ verdictAt (cleanVerdicts i) n
-  -- with early the final verdicts are the provisional ones
-  pub early-same : i .device .confirmation ≡ Early → finalVerdicts i ds ≡ run i ds .verdicts
-
--- of every list of damage, and of the clean line (R-10.11)
 pub record Finals {J : Type 0} (i : Inputs J) : Type 0 where
   -- early or late, both ends come to the same: only the settling differs
   pub same-run : (c : Confirmation) (ds : Damages) → final (confirming i c) ds ≡ final i ds
-  -- a bad line
-  pub bad-line : (ds : Damages) → Fair i ds → Settles i ds
+  -- with early the final verdicts are the provisional ones
+  pub early-same : i .device .confirmation ≡ Early → (ds : Damages) → finalVerdicts i ds ≡ run i ds .verdicts
+  -- the provisional verdicts are those before the close, or behind the stop where a call never comes to it
+  pub before-close : (ds : Damages) (n : ℕ) → pastBlocks (after i n ds (start i) .step) ≡ true →
+      after i n ds (start i) .verdicts ≡ run i ds .verdicts
+  -- a bad line: a final accepted or rejected is the clean one
+  pub final-clean : (ds : Damages) → Fair i ds → (n : ℕ) → decides (verdictAt (finalVerdicts i ds) n) ≡ true →
+      verdictAt (finalVerdicts i ds) n ≡ verdictAt (cleanVerdicts i) n
   -- a clean line: the close confirms, and the final verdicts are the clean ones, with late too
   pub clean-line : finalVerdicts i [] ≡ cleanVerdicts i

@@ -1,8 +1,8 @@
 -- The bound: every string that the device puts out leaves it fewer transmissions, whatever it reads.
 use mathlib.Core.Bool.{true}
-use mathlib.Core.List.{List, []}
+use mathlib.Core.List.{List, [], _∷_}
 use mathlib.Core.Logic.{_⊎_, inl, inr}
-use mathlib.Core.Path.{_≡_, refl}
+use mathlib.Core.Path.{_≡_, refl, ap, _∙_}
 use Prim.Native.Nat.{ℕ, _+_, _-_, _*_, _≤_, _<_}
 use native.Mathlib.Nat.{mul-add, mul-le-mul-left}
 use native.Mathlib.Numerals.{add-one}
@@ -13,9 +13,10 @@ use lib.ListN.{length, drop}
 use lib.Seq.{drop-cons}
 use Rattle.line.proofs.OutcomeLaws.{choice}
 use Rattle.journal.specs.Encoding.{allLegal}
+use Rattle.segmentation.specs.Segmentation.{segmentationBy}
 use Rattle.reply.specs.declared.Reply.{Reply}
 use Rattle.device.specs.Bound.{jobBlocks, blocksBehind, leftOf, transmissionsLeft}
-use Rattle.device.specs.Reaction.{blocksIn, first, moves, onwards, place, Move}
+use Rattle.device.specs.Reaction.{blocksIn, first, moves, onwards, place, segmentsOf, Move}
 use Rattle.device.specs.Step.{exists}
 use Rattle.device.specs.declared.state.Place.{Place}
 use Rattle.device.specs.declared.state.Settings.{Settings}
@@ -23,6 +24,13 @@ use Rattle.device.specs.declared.state.Step.{Step}
 use Rattle.device.specs.declared.state.Step.the-variants.{Opening, Stopped}
 use Rattle.device.proofs.JobLaws.{blocks-some, somewhere-parts}
 use Rattle.device.proofs.MoveLaws.{Leads, requested, reopens, unanswered, admitted, relogs, turned-away, accepted, continued, resends, exhausted, rejected, hung-up, unconfirmed, recloses, reported, stays, moves-lead}
+
+-- a job has as many blocks with whatever settings cut it in the same way
+pub blocks-alike : (settings settings′ : Settings) → settings .way ≡ settings′ .way → (ts : List (List ℕ)) → jobBlocks settings ts ≡ jobBlocks settings′ ts
+unfolding jobBlocks segmentsOf
+blocks-alike settings settings′ e [] = refl
+blocks-alike settings settings′ e (t ∷ ts) =
+    ap (λ way. length (segmentationBy way t) + jobBlocks settings ts) e ∙ ap (λ n. length (segmentationBy (settings′ .way) t) + n) (blocks-alike settings settings′ e ts)
 
 module _ (settings : Settings) where
   -- the same string once more leaves fewer

@@ -7,7 +7,6 @@ use lib.ListN.{length, replicate, length-map}
 use Rattle.reply.specs.declared.Meaning.the-variants.{IdRequest, Acceptance, Ack, Nak, Rs, Eot}
 use Rattle.reply.specs.declared.Reply.{Reply}
 use Rattle.reply.specs.declared.Reply.the-variants.{Recognized, Unrecognized}
-use Rattle.device.specs.Bound.{jobBlocks}
 use Rattle.device.specs.Reaction.{Move, moves, segmentsOf, stringBytes, verdictNumber}
 use Rattle.device.specs.Settling.{withConfirmation, isStopped, standingAt, doubted, doubtedNumber, settled, settledNumbers}
 use Rattle.device.specs.declared.settling.Standing.{Standing}
@@ -58,12 +57,6 @@ module _ (settings : Settings) (c : Confirmation) (ts : List (List ℕ)) where
   string-confirmed (Sending p) = refl
   string-confirmed (Closing p) = refl
   string-confirmed Stopped = refl
-
--- and have as many blocks
-pub blocks-confirmed : (settings : Settings) (c : Confirmation) (ts : List (List ℕ)) → jobBlocks (withConfirmation settings c) ts ≡ jobBlocks settings ts
-unfolding jobBlocks segmentsOf
-blocks-confirmed settings c [] = refl
-blocks-confirmed settings c (t ∷ ts) = rw (blocks-confirmed settings c ts)
 
 -- ── At the stop ──
 
