@@ -157,6 +157,26 @@ static void central_hang_up(twin_central *s, const twin_central_settings *t) {
     code = a.code;
 }
 
+static twin_remarks of_remarks(SIDE(remarks) r) {
+    return (twin_remarks){r.found, {r.lines.begin, r.lines.end}, {r.id.begin, r.id.end}};
+}
+
+static void mix_remarks(twin_remarks r) {
+    mix_number(r.found);
+    mix_number(r.lines.begin);
+    mix_number(r.lines.end);
+    mix_number(r.id.begin);
+    mix_number(r.id.end);
+}
+
+// What was found counts as the number answered.
+static void read_remarks(const char *name, const uint8_t *bytes, size_t n) {
+    MEASURED(name, SIDE(remarks) r = SIDE(read_remarks)(bytes, n))
+    mix_remarks(of_remarks(r));
+    report(name, r.found, r.lines.end);
+    code = r.found;
+}
+
 static void device_step(const char *name, int starts, twin_device *s, twin_given *g, const twin_device_settings *t,
                         const uint8_t *job, size_t n, const uint8_t *reply, size_t reply_length, size_t room) {
 #ifdef PRODUCT
@@ -166,10 +186,10 @@ static void device_step(const char *name, int starts, twin_device *s, twin_given
                        starts ? tyntolai_device_start(settings, job, n, out, room)
                               : tyntolai_device_step(state, settings, job, n, reply, reply_length, out, room))
     *s = (twin_device){r.state.step, r.state.transaction, r.state.block, r.state.attempts};
-    *g = (twin_given){r.verdict, r.transaction, r.report, r.standing};
+    *g = (twin_given){r.verdict, r.transaction, r.report, r.standing, of_remarks(r.remarks)};
     tyntolai_answer a = r.answer;
 #else
-    *g = (twin_given){0, 0, 0, 0};
+    *g = (twin_given){0};
     MEASURED(name, twin_answer a = starts ? twin_device_start(s, t, job, n, out, room)
                                           : twin_device_step(s, g, t, job, n, reply, reply_length, out, room))
 #endif
@@ -182,6 +202,7 @@ static void device_step(const char *name, int starts, twin_device *s, twin_given
     mix_number(g->transaction);
     mix_number(g->report);
     mix_number(g->standing);
+    mix_remarks(g->remarks);
     mix(out, 300);
     report(name, a.code, a.count);
     code = a.code;
@@ -381,6 +402,13 @@ static void measure_reply(const char *name, const char *text, size_t n) {
     NUMBERED(name, SIDE(read_reply)(line, n));
 }
 
+static void measure_remarks(const char *name, const char *text, size_t n) {
+    uint8_t line[256];
+    memcpy(line, text, n);
+    set_parity(line, n);
+    read_remarks(name, line, n);
+}
+
 static void measure_replies(void) {
     char text[256];
     measure_reply("reply read, CR ACK CR", "\r\x06\r", 3);
@@ -389,6 +417,11 @@ static void measure_replies(void) {
     memset(text, 'A', 250);
     memcpy(text + 250, "\r\x06\r", 3);
     measure_reply("reply read, 250 characters, then ACK", text, 253);
+    measure_remarks("remarks read, CR ACK CR", "\r\x06\r", 3);
+    for (size_t i = 0; i < 11; i++)
+        memcpy(text + 23 * i, i % 2 ? "ID=7 PAGE 12 ACCEPTED.\r" : "211 PAGE 12 IS STORED.\r", 23);
+    memcpy(text + 253, "\x06\r\n", 3);
+    measure_remarks("remarks read, 256: 11 lines, 5 of them ID, then ACK", text, 256);
 }
 
 // Bytes fed, in pieces of so many, to a state that holds so many: STX and As. Or a flush of it.
@@ -576,20 +609,59 @@ static size_t any_journal(uint8_t *to, size_t most_records, size_t most) {
     return length > BUFFER ? BUFFER + 1 : length;
 }
 
+static size_t put_text(uint8_t *to, const char *text) {
+    memcpy(to, text, strlen(text));
+    return strlen(text);
+}
+
+static size_t any_ending(uint8_t *to) { return put_text(to, below(3) ? "\r" : "\r\n"); }
+
+// Up to three lines, with ID at the start of some or near it; below 800 bytes.
+static size_t any_lines(uint8_t *to) {
+    static const char *starts[] = {"ID", "ID=", "", "I", "id", " ID", "OK ID"};
+    size_t n = 0;
+    for (size_t k = below(4); k > 0; k--) {
+        n += put_text(to + n, starts[below(7)]);
+        size_t rest = rarely() ? any_length(250) : below(8);
+        for (size_t i = 0; i < rest; i++) to[n++] = (uint8_t)(0x20 + below(0x5F));
+        n += any_ending(to + n);
+    }
+    return n;
+}
+
+// Lines, then a code; in an acceptance lines also behind its ACK.
+static size_t any_remarks(uint8_t *to) {
+    static const char *codes[] = {"\x06", "\x15", "\x1E", "\x1B\x04", "\x1B[p"};
+    size_t n = any_lines(to), k = below(5);
+    if (k == 4) {
+        n += put_text(to + n, "\x06");
+        n += any_ending(to + n);
+        n += any_lines(to + n);
+    }
+    n += put_text(to + n, codes[k]);
+    return n + any_ending(to + n);
+}
+
+// A reply, whole or torn; below 2,000 bytes.
 static size_t any_reply(uint8_t *to) {
     static const char *pieces[] = {"\r", "\n", "\x06", "\x15", "\x1E", "\x1B\x04", "\x1B[p", "ID=", " ", "OK", "\r\n", "\r\x06\r", "\r\x15\r", "\r\x1E\r", "\r\x1B\x04\r", "\r\x06\r\x1B[p\r", "ID=\r"};
     size_t n = 0;
-    if (below(2)) {
-        const char *s = pieces[11 + below(6)];
-        n = strlen(s);
-        memcpy(to, s, n);
-    } else {
-        for (size_t k = below(8); k > 0; k--) {
-            const char *s = pieces[below(17)];
-            memcpy(to + n, s, strlen(s));
-            n += strlen(s);
-        }
+    switch (below(4)) {
+    case 0:
+        n = put_text(to, pieces[11 + below(6)]);
+        break;
+    case 1:
+        for (size_t k = below(8); k > 0; k--) n += put_text(to + n, pieces[below(17)]);
         if (rarely()) while (n < 254 + below(5)) to[n++] = below(20) ? 'a' : CR;
+        break;
+    default:
+        n = any_remarks(to);
+    }
+    if (rarely()) n = below(n + 1);
+    if (rarely()) {
+        size_t lost = below(n + 1);
+        n -= lost;
+        memmove(to, to + lost, n);
     }
     set_parity(to, n);
     if (n > 0 && rarely()) to[below(n)] ^= (uint8_t)(1 << below(8));
@@ -755,6 +827,11 @@ static void random_journals(size_t calls) {
         NUMBERED(NULL, SIDE(read_reply)(text, n));
     }
     summed("reply read");
+    for (size_t i = 0; i < calls; i++, seen[code]++) {
+        size_t n = any_reply(text);
+        read_remarks(NULL, text, n);
+    }
+    summed("remarks read");
 }
 
 static void random_framers(size_t calls) {
@@ -802,7 +879,7 @@ static void random_centrals(size_t calls) {
 }
 
 static void random_devices(size_t calls) {
-    uint8_t reply[512];
+    uint8_t reply[2000];
     twin_device s = {0, 0, 0, 0};
     twin_given given;
     size_t n = 0;

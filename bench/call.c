@@ -55,6 +55,8 @@ int main(void) {
         device = tyntolai_device_step(device.state, device_settings, job, length.count, answer,
                                       heard.answer.count, string, sizeof string);
         if (device.answer.code != 0) return wrong("a step of the device");
+        const tyntolai_span lines = device.remarks.lines; // what the central wrote before its code
+        if (device.remarks.found != 0) print("  wrote", answer + lines.begin, lines.end - lines.begin);
         if (device.verdict != 0) verdicts[device.transaction] = device.verdict;
         if (device.standing != TYNTOLAI_STANDING_OPEN) tyntolai_settle(device.standing, verdicts, sizeof verdicts);
     }
@@ -65,6 +67,15 @@ int main(void) {
     if (device.state.step != TYNTOLAI_STOPPED || device.report != 1 + TYNTOLAI_EOT ||
         device.standing != TYNTOLAI_STANDING_CONFIRMED) {
         return wrong("the close");
+    }
+
+    // A central that writes lines before its code: where the last of them with ID stands.
+    const size_t said = tyntolai_set_parity((const uint8_t *)"OK\r\nID 7\r\n\x06\r", 12, string, sizeof string).count;
+    const tyntolai_remarks remarks = tyntolai_read_remarks(string, said);
+    print("ID line", string + remarks.id.begin, remarks.id.end - remarks.id.begin);
+    if (remarks.found != 2 || remarks.lines.begin != 0 || remarks.lines.end != 10 || remarks.id.begin != 4 ||
+        remarks.id.end != 8) {
+        return wrong("the remarks");
     }
 
     // Memory of another size is no part of a state. The line is dropped, and the central waits for the next call.

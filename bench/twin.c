@@ -278,31 +278,47 @@ static int ends(const uint8_t *p, const uint8_t *end) {
     return (end - p == 1 && p[0] == CR) || (end - p == 2 && p[0] == CR && p[1] == LF);
 }
 
-// Behind the whole lines that stand there.
-static const uint8_t *skip_lines(const uint8_t *p, const uint8_t *end) {
-    for (;;) {
-        const uint8_t *q = p;
-        while (q < end && printable(*q)) q++;
-        if (q == end || *q != CR) return p;
-        p = q + 1;
-        if (p < end && *p == LF) p++;
-    }
+// The CR of the whole line that stands there, or NULL.
+static const uint8_t *line_end(const uint8_t *p, const uint8_t *end) {
+    while (p < end && printable(*p)) p++;
+    return p < end && *p == CR ? p : NULL;
 }
 
-static uint8_t read_text(const uint8_t *p, const uint8_t *end) {
-    if (end - p >= 3 && memcmp(p, "ID=", 3) == 0) {
-        const uint8_t *q = p + 3;
-        if (q < end && *q == ' ') q++;
-        if (q == end || ends(q, end)) return TWIN_ID_REQUEST;
+// Behind the LF that may stand there.
+static const uint8_t *skip_lf(const uint8_t *p, const uint8_t *end) { return p < end && *p == LF ? p + 1 : p; }
+
+// Behind the whole lines that stand there.
+static const uint8_t *skip_lines(const uint8_t *p, const uint8_t *end) {
+    const uint8_t *q;
+    while ((q = line_end(p, end)) != NULL) p = skip_lf(q + 1, end);
+    return p;
+}
+
+// The same; the last that begins with ID, as it stands in the text, goes to id.
+static const uint8_t *note_lines(const uint8_t *text, const uint8_t *end, twin_span *id) {
+    const uint8_t *p = text, *q;
+    while ((q = line_end(p, end)) != NULL) {
+        if (q - p >= 2 && p[0] == 'I' && p[1] == 'D') *id = (twin_span){(size_t)(p - text), (size_t)(q - text)};
+        p = skip_lf(q + 1, end);
     }
-    p = skip_lines(p, end);
+    return p;
+}
+
+static inline int requests(const uint8_t *p, const uint8_t *end) {
+    if (end - p < 3 || memcmp(p, "ID=", 3) != 0) return 0;
+    p += 3;
+    if (p < end && *p == ' ') p++;
+    return p == end || ends(p, end);
+}
+
+// The meaning of what follows the lines.
+static inline uint8_t read_code(const uint8_t *p, const uint8_t *end) {
     if (p == end) return TWIN_UNREAD;
     switch (*p) {
     case ACK:
         if (ends(p + 1, end)) return TWIN_ACK;
         if (end - p < 2 || p[1] != CR) return TWIN_UNREAD;
-        p += end - p > 2 && p[2] == LF ? 3 : 2;
-        p = skip_lines(p, end);
+        p = skip_lines(skip_lf(p + 2, end), end);
         if (end - p >= 3 && p[0] == ESC && p[1] == '[' && p[2] == 'p' && ends(p + 3, end)) return TWIN_ACCEPTANCE;
         return TWIN_UNREAD;
     case NAK:
@@ -318,7 +334,27 @@ static uint8_t read_text(const uint8_t *p, const uint8_t *end) {
 uint8_t twin_read_reply(const uint8_t *bytes, size_t n) {
     uint8_t text[256];
     if (twin_clear_parity(bytes, n, text, sizeof text).code) return TWIN_UNREAD;
-    return read_text(text, text + n);
+    if (requests(text, text + n)) return TWIN_ID_REQUEST;
+    return read_code(skip_lines(text, text + n), text + n);
+}
+
+// The meaning of a reply, and its remarks.
+static uint8_t read_both(const uint8_t *bytes, size_t n, twin_remarks *remarks) {
+    uint8_t text[256];
+    twin_span id = {0, 0};
+    *remarks = (twin_remarks){0};
+    if (twin_clear_parity(bytes, n, text, sizeof text).code) return TWIN_UNREAD;
+    if (requests(text, text + n)) return TWIN_ID_REQUEST;
+    const uint8_t *code = note_lines(text, text + n, &id);
+    uint8_t reply = read_code(code, text + n);
+    if (reply != TWIN_UNREAD) *remarks = (twin_remarks){id.end > 0 ? 2 : 1, {0, (size_t)(code - text)}, id};
+    return reply;
+}
+
+twin_remarks twin_read_remarks(const uint8_t *bytes, size_t n) {
+    twin_remarks remarks;
+    read_both(bytes, n, &remarks);
+    return remarks;
 }
 
 // ---- the framer
@@ -695,12 +731,14 @@ twin_answer twin_device_step(twin_device *s, twin_given *given, const twin_devic
                              uint8_t *out, size_t room) {
     size_t count, blocks;
     part here, next;
-    *given = (twin_given){0, 0, 0, TWIN_OPEN};
+    *given = (twin_given){0};
     uint8_t wrong = test_device(s, settings, job, n, room, &count, &blocks, &here, &next);
     if (wrong) return refused(wrong);
     size_t before = s->step == TWIN_SENDING ? s->transaction : 0;
     int went_on = s->step != TWIN_STOPPED;
-    move(s, given, settings->retries + 1, count, blocks, twin_read_reply(reply, reply_length));
+    uint8_t heard = read_both(reply, reply_length, &given->remarks);
+    if (!went_on || (s->step == TWIN_SENDING && heard == TWIN_ACCEPTANCE)) given->remarks = (twin_remarks){0};
+    move(s, given, settings->retries + 1, count, blocks, heard);
     size_t after = s->step == TWIN_SENDING ? s->transaction : 0;
     if (went_on && s->step == TWIN_STOPPED)
         given->standing =
@@ -731,7 +769,7 @@ twin_totals twin_run(const uint8_t *job, size_t n, const twin_device_settings *d
     uint8_t string[256], answer[7];
     twin_device d;
     twin_central c;
-    twin_given given = {0, 0, 0, TWIN_OPEN};
+    twin_given given = {0};
     size_t sent = 0;
     if (!device_in_range(device) || !central_in_range(central) || !pagers_in_range(pagers, pager_count)) {
         return (twin_totals){0, 0, 9};

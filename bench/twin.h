@@ -43,13 +43,24 @@ typedef struct {
 
 enum { TWIN_OPEN, TWIN_CONFIRMED, TWIN_IN_DOUBT };
 
+typedef struct {
+    size_t begin, end;
+} twin_span;
+
+// Where the lines before a reply's code stand (found is 1), and the last that begins with ID (2).
+typedef struct {
+    uint8_t found;
+    twin_span lines, id;
+} twin_remarks;
+
 // What a step of the device gives: a verdict (0: none) on a transaction, the closing reply
-// (0: none, else 1 plus its number), and how the accepted verdicts stand.
+// (0: none, else 1 plus its number), how the accepted verdicts stand, and the remarks of the reply.
 typedef struct {
     uint8_t verdict;
     size_t transaction;
     uint8_t report;
     uint8_t standing;
+    twin_remarks remarks;
 } twin_given;
 
 enum { TWIN_IDLE, TWIN_LOGON, TWIN_BLOCK, TWIN_CLOSED };
@@ -85,6 +96,7 @@ twin_answer twin_write_segments(uint8_t way, const uint8_t *info, size_t n, uint
 twin_answer twin_check_journal(const uint8_t *journal, size_t n);
 twin_answer twin_append(uint8_t *buffer, size_t size, size_t length, const uint8_t *info, size_t n);
 uint8_t twin_read_reply(const uint8_t *bytes, size_t n);
+twin_remarks twin_read_remarks(const uint8_t *bytes, size_t n);
 twin_answer twin_framer_feed(twin_framer *state, size_t *used, const uint8_t *bytes, size_t n, uint8_t *out,
                              size_t room);
 twin_answer twin_framer_flush(twin_framer *state, uint8_t *out, size_t room);

@@ -101,6 +101,25 @@ enum {
 // What the bytes of a reply mean, as they came off the line: one of the above.
 uint8_t tyntolai_read_reply(const uint8_t *bytes, size_t byte_count);
 
+// A part of a reply: its bytes from begin on, up to end.
+typedef struct {
+    size_t begin;
+    size_t end;
+} tyntolai_span;
+
+// What the central wrote before the code, in an acceptance before its ACK: found is 0 where there are no
+// places (an ID request, or nothing recognized), 1 where lines is the place of the lines, their endings
+// included (0 to 0: none were written), and 2 where id is also that of the last of them that begins with
+// ID, its ending left out. A span that is not there is 0 to 0. Both always lie within the reply.
+typedef struct {
+    uint8_t found;
+    tyntolai_span lines;
+    tyntolai_span id;
+} tyntolai_remarks;
+
+// The places in the bytes of a reply, as they came off the line.
+tyntolai_remarks tyntolai_read_remarks(const uint8_t *bytes, size_t byte_count);
+
 // ---- Bytes as a wire brings them
 
 // What is held of a string that is not complete: its bytes as they came, zeros behind them, and how many
@@ -222,8 +241,9 @@ enum { TYNTOLAI_STANDING_OPEN = 0, TYNTOLAI_STANDING_CONFIRMED = 1, TYNTOLAI_STA
 
 // The verdict that a step gives (0: none) and on which transaction; the reply to the close
 // (0: this step reports none; else 1 plus its number, so that silence and what is not recognized are 1);
-// and how the accepted verdicts stand. A driver keeps the verdicts given, and at the step that stops,
-// which says confirmed or in doubt, calls tyntolai_settle on them.
+// how the accepted verdicts stand; and what the central wrote in the reply just read: no places where the
+// step counts the reply as unread. A driver keeps the verdicts given, and at the step that stops, which
+// says confirmed or in doubt, calls tyntolai_settle on them.
 typedef struct {
     tyntolai_answer answer;
     tyntolai_device_state state;
@@ -231,6 +251,7 @@ typedef struct {
     size_t transaction;
     uint8_t report;
     uint8_t standing;
+    tyntolai_remarks remarks;
 } tyntolai_device_stepped;
 
 // The start of a call for a job lent at its exact length: count bytes of the first string go to out

@@ -5,7 +5,9 @@ The answers come from a model of document 01 that is written here in Python, fro
 numbers that the paper prints, which are asserted below, as demand 3 is of every run. Eight parts are younger, and by people who knew the Rattle sources:
 the walk of a journal, single steps from saved states, two decisions that the model followed (hanging up tests no pager list; the index of a block of whole fields is
 tested last), and of document 02 the framer, the cutting into whole fields and the late no, which are all written twice here, and sums that are added to. Of those it is a
-second writing and no second opinion. The program `vectors` makes the calls on the proved functions; the gate compares.
+second writing and no second opinion. A ninth is younger and a second opinion again: the places of what the central wrote, written twice here from document 01, from
+wish 5 of document 02 and from a brief that said how the wish is taken, by one who had not read the Rattle files that find them. The program `vectors` makes the calls on
+the proved functions; the gate compares.
 
 A line of stdin is a call: a letter, then arguments with a space before each. Bytes are hex pairs; `*` and four hex digits behind a pair repeat it;
 no bytes are `-`. A number is bytes too, high first. A capital letter makes the call of the small one, and cuts into whole fields; a letter with bit 7 set, written
@@ -77,6 +79,11 @@ def clear_parity(line, room):
     if any(bin(c).count("1") % 2 for c in line):
         raise Refused(3)
     return bytes(c & 0x7F for c in line)
+
+
+def off_line(texts):
+    """Strings as they come off the line: texts with parity, bytes in a list as they are."""
+    return [x[0] if isinstance(x, list) else bytes(map(with_parity, x)) for x in texts]
 
 
 # ── blocks ──
@@ -656,7 +663,7 @@ def converse(central, lines):
 
 def d(password, longest, retries, pagers, journal, *texts):
     """A conversation with the central; texts get parity, lines given as bytes in a list do not."""
-    lines = [x[0] if isinstance(x, list) else bytes(map(with_parity, x)) for x in texts]
+    lines = off_line(texts)
     numbers = b"".join(x.to_bytes(4, "big") for x in pagers)
     call("d", hexed(password), number(longest), number(retries), hexed(numbers), hexed(journal), *[hexed(x) for x in lines],
          answer=lambda: converse(Central(password, longest, retries, pagers, journal), lines))
@@ -772,7 +779,7 @@ def play(password, retries, job, lines, whole):
 
 def e(password, retries, job, *texts, whole=False, late=False):
     """Replies played to the device from its start; texts get parity, lines given as bytes in a list do not."""
-    lines = [x[0] if isinstance(x, list) else bytes(map(with_parity, x)) for x in texts]
+    lines = off_line(texts)
     call(named("e", whole, late), hexed(password), number(retries), hexed(job), *[hexed(x) for x in lines], answer=lambda: play(password, retries, job, lines, whole))
 
 
@@ -834,7 +841,7 @@ def resumed(settings, begin, stage, failures, pending, n, length, size, room, li
 
 def f(*texts, password=b"", longest=2000, retries=2, pagers=(123, 7), begin=encode([]), stage="block", failures=0, pending=b"", n=None, length=None, size=32004, room=7):
     """Steps of the central from a saved state; n is the length of what is unfinished, length the journal's, size its buffer's, room the output's."""
-    lines = [x[0] if isinstance(x, list) else bytes(map(with_parity, x)) for x in texts]
+    lines = off_line(texts)
     n, length = len(pending) if n is None else n, len(begin) if length is None else length
     numbers = b"".join(x.to_bytes(4, "big") for x in pagers)
     assert len(pagers) <= 1001 and len(pending) <= 2000 and room <= 256  # what the program has room for
@@ -852,22 +859,23 @@ def exists(job, step, place, whole):
     return step == "stopped" or (t < len(job) and b < len(cut(job[t], whole)) if step == "sending" else place == (0, 0))
 
 
+def saved(password, retries, job, step, place, attempts, room, whole):
+    """The device in a saved state, with an output of so many bytes."""
+    settings(password, retries)
+    if not device_in_range(step, attempts, retries):
+        raise Refused(9)
+    if room < 256:
+        raise Refused(1)
+    d = Device(password, retries, job, whole)
+    if not exists(d.job, step, place, whole):
+        raise Refused(9)
+    d.step, d.place, d.attempts = step, place, attempts
+    return d
+
+
 def replayed(password, retries, job, step, place, attempts, room, lines, whole):
     """The start, what the device does with replies from a saved state on, and how state and output stand at the end."""
     out, said = FILLER * room, []
-
-    def tested():
-        settings(password, retries)
-        if not device_in_range(step, attempts, retries):
-            raise Refused(9)
-        if room < 256:
-            raise Refused(1)
-        d = Device(password, retries, job, whole)
-        if not exists(d.job, step, place, whole):
-            raise Refused(9)
-        d.step, d.place, d.attempts = step, place, attempts
-        return d
-
     try:
         settings(password, retries)
         if room < 256:
@@ -879,7 +887,7 @@ def replayed(password, retries, job, step, place, attempts, room, lines, whole):
         said.append("refused %s" % r)
     for line in lines:
         try:
-            d = tested()
+            d = saved(password, retries, job, step, place, attempts, room, whole)
         except Refused as r:
             said.append("- refused %s" % r)
             continue
@@ -891,7 +899,7 @@ def replayed(password, retries, job, step, place, attempts, room, lines, whole):
 
 def g(*texts, password=b"", retries=1, job, step="sending", place=(0, 0), attempts=1, room=256, whole=False, late=False):
     """Steps of the entry device from a saved state; room is the output's size."""
-    lines = [x[0] if isinstance(x, list) else bytes(map(with_parity, x)) for x in texts]
+    lines = off_line(texts)
     assert room <= 512  # what the program has room for
     call(named("g", whole, late), hexed(password), number(retries), hexed(job), "x" if step == "stopped" else step[0], number(place[0]), number(place[1]), number(attempts), number(room),
          *[hexed(x) for x in lines], answer=lambda: replayed(password, retries, job, step, place, attempts, room, lines, whole))
@@ -1553,7 +1561,7 @@ def driven(password, retries, job, lines, whole, late):
 
 def l(job, *texts, password=b"", retries=1, whole=False, late=False):
     """Replies played to a driver of the device, its job given as transactions or as bytes; texts get parity, lines given as bytes in a list do not."""
-    lines = [x[0] if isinstance(x, list) else bytes(map(with_parity, x)) for x in texts]
+    lines = off_line(texts)
     job = job if isinstance(job, bytes) else encode(job)
     assert len(lines) <= 27  # what the program has room for
     call(named("l", whole, late), hexed(password), number(retries), hexed(job), *[hexed(x) for x in lines], answer=lambda: driven(password, retries, job, lines, whole, late))
@@ -1690,6 +1698,176 @@ def late_devices():
         alike(g, SAID_EOT, **{"job": job, "step": "closing", **wrong})
 
 
+# ── what the central wrote ──
+def lines_at(text, at):
+    """The lines that stand at a place, one behind the other: where each begins, where its characters end, and where it does; and the place behind them."""
+    found = []
+    while True:
+        end = at
+        while end < len(text) and 0x20 <= text[end] <= 0x7E:
+            end += 1
+        if text[end:end + 1] != b"\r":
+            return found, at
+        begin, at = at, end + (2 if text[end + 1:end + 2] == b"\n" else 1)
+        found.append((begin, end, at))
+
+
+def ended(code):
+    return code + b"\r", code + b"\r\n"
+
+
+def parsed(text):
+    """The place of the lines before the code, and that of the last of them that begins with ID or None; None where there are none. By a walk over the text."""
+    before, end = lines_at(text, 0)
+    last, rest = [(x, y) for x, y, _ in before if text[x:x + 2] == b"ID"][-1:], text[end:]
+    plain_reply = any(rest in ended(code) for code in (b"\x06", b"\x15", b"\x1e", b"\x1b\x04"))
+    acceptance = any(rest.startswith(ack) and rest[lines_at(rest, len(ack))[1]:] in ended(b"\x1b[p") for ack in ended(b"\x06"))
+    return ((0, end), last[0] if last else None) if plain_reply or acceptance else None
+
+
+# lines, of which behind the last that begins with ID none does; a code, or what a logon acceptance has from its ACK on
+WRITTEN = rb"((?:(?:%s)*(ID[ -~]*)\r\n?)?(?:(?!ID)%s)*)(?:(?:%s)|\x06\r\n?(?:%s)*\x1b\[p)\r\n?" % (LINE, LINE, b"|".join(CODES.values()), LINE)
+
+
+def places(data):
+    """The same of a reply off the line; and once more, as a regular expression."""
+    if len(data) > 256 or any(bin(c).count("1") % 2 for c in data):
+        return None
+    text = bytes(c & 0x7F for c in data)
+    one, other = parsed(text), re.fullmatch(WRITTEN, text)
+    assert one == (other and (other.span(1), other.span(2) if other[2] else None)) and (one is None) == (meaning(data) in ("id request", "unrecognized"))
+    if one:
+        (begin, end), (first, last) = one[0], one[1] or one[0]
+        assert 0 == begin <= first <= last <= end < len(data) and (one[1] is None or text[last] == CR)
+    return one
+
+
+def shown(found):
+    return " ".join("%d-%d" % place for place in found if place) if found else "-"
+
+
+def h(text):
+    """Where what the central wrote stands in a reply."""
+    data, = off_line([text])
+    call("h", hexed(data), answer=lambda: shown(places(data)))
+
+
+def typed(lines, *endings):
+    """Lines, with these endings in turn."""
+    return b"".join(line + end for line, end in zip(lines, itertools.cycle(endings)))
+
+
+def remarks(rng):
+    some = ([], [b""], [b"", b"", b""], [b"OK"], [b"ID"], [b"ID123 not known"], [b"ID="], [b"ID= "], [b"id123"], [b"Id"], [b"iD"], [b" ID123"], [b"no ID123"], [b"I"], [b"D"], [b"I", b"D"],
+            [b"DI", b"D"], [b"IDID"], [b"", b"ID1"], [b"ID1", b""], [b"ID1", b"ID"], [b"ID", b"ID1"], [b"ID", b"ID"], [b"OK", b"ID1", b"bye"], [b"ID1", b"OK", b"ID22", b"bye"],
+            [b"ID1", b" ID2", b"id3", b"x ID4"], [b" ", b"ID ~", b"~"], [b"ID\\[p"])
+    endings = ((b"\r",), (b"\r\n",), (b"\r", b"\r\n"), (b"\r\n", b"\r"))
+    tails = [code + end for code in (b"\x06", b"\x15", b"\x1e", b"\x1b\x04", b"\x06\r\x1b[p", b"\x06\r\nID9\r\x1b[p") for end in (b"\r", b"\r\n")]
+    # by the words of the wish, and the replies of document 01
+    for text, answer in ((b"ID123 not known\r\x15\r", "0-16 0-15"), (b"\r\nID123 not known\r\n\r\x1e\r\n", "0-20 2-17"), (b"Bad phone line\r\x1b\x04\r", "0-15"), (b"ID\rID\r\n\x06\r", "0-7 3-5"),
+                         (b"OK\r\x1e\r\n", "0-3"), (b"\x06\r", "0-0"), (b"\r\x06", "-"), (b"\x06\r\r", "-"), (b"\r\x06\r\x1b[p\r", "0-1"), (b"ID1\r\x06\rID2\r\x1b[p\r", "0-4 0-3"), (b"ID=\r", "-"), (b"", "-")):
+        h(text)
+        assert answers[-1] == answer
+    # lines of all kinds, with endings of all kinds, before each code in turn; no lines and few before every code
+    turn = itertools.cycle(tails)
+    for before in dict.fromkeys(typed(lines, *ends) for lines in some for ends in endings):
+        h(before + next(turn))
+    for before, tail in itertools.product((b"", b"\r\n", b"wait\r\nID123 not known\rOK\r"), tails):
+        h(before + tail)
+    # logon acceptances: what stands behind the ACK does not count
+    turn = itertools.cycle(endings)
+    for before, behind in itertools.product(([], [b""], [b"OK"], [b"ID1"], [b"ID1", b"OK"]), ([], [b""], [b"ID9 wait"], [b"ID", b""], [b"", b"id", b"ID=", b"ID8"])):
+        ends = next(turn)
+        h(typed(before, *ends) + typed([b"\x06"] + behind + [b"\x1b[p"], *ends))
+    # ID requests; what only looks like one
+    for text, end in itertools.product((b"ID=", b"ID= ", b"ID=  ", b"\rID=", b"ID=\r\nID=", b"ID=\r\x06"), (b"", b"\r", b"\r\n")):
+        h(text + end)
+    # up to 256 bytes, and one more
+    for n, end in itertools.product((255, 256, 257), (b"\r\x06\r", b"\r\nID\r\n\x1b\x04\r\n", b"\r\x06\rID2\r\x1b[p\r")):
+        h(b"ID".ljust(n - len(end), b"A") + end), h(b"\r" * (n - len(end)) + end)
+    # one byte of odd parity; torn replies
+    text = b"OK\r\nID123\r\r\x06\r\nID9\r\x1b[p\r\n"
+    line, = off_line([text])
+    for n in range(len(line)):
+        h([line[:n] + bytes([line[n] ^ 0x80 >> n % 8]) + line[n + 1:]])
+    for text in (text, b"ID1\r\nID\r\x1b\x04\r"):
+        for n in range(1, len(text)):
+            h(text[:n]), h(text[n:])
+    # wrong characters, and codes in a wrong place
+    for wrong in (b"\n", b"\n\r", b"\r\n\n", b"OK", b"OK\n", b"ID1\x7f\r", b"ID1\x1f\r", b"\tID1\r", b"ID\x06\r", b"\x06\r", b"\x15\r\n", b"\x1b\r", b"\x1b[p\r"):
+        h(wrong + b"\x06\r"), h(b"ID1\r" + wrong + b"\x1e\r\n"), h(b"ID1\r\x15\r" + wrong)
+    # all kinds
+    for _ in range(70):
+        h(typed(rng.choices((b"", b"OK", b"ID", b"ID1", b"I", b"id", b" ID", b"DID"), k=rng.randint(0, 6)), *rng.choices((b"\r", b"\r\n"), k=5)) + rng.choice(tails))
+    for _ in range(50):
+        h(bytes(rng.choices(b"\r\nIDA\x06\x15\x1e\x1b", (6, 2, 4, 4, 1, 2, 1, 1, 1), k=rng.randint(1, 7))) + rng.choice((b"", b"\r\x06\r", b"\r\x1b[p\r")))
+
+
+def reported(step, line):
+    """What the device reports of a reply: nothing once it has stopped, and nothing of one that is unread where a block was sent."""
+    return shown(None if step == "stopped" or step == "sending" and meaning(line) not in CODES else places(line))
+
+
+def reports_of(password, retries, job, step, place, attempts, room, lines, whole):
+    """What the start reports, and the device of each reply from a saved state on; and why where it refuses."""
+    said = []
+    try:
+        saved(password, retries, job, "opening", (0, 0), 1, room, whole)
+        said.append("-")
+    except Refused as r:
+        said.append("- refused %s" % r)
+    for line in lines:
+        try:
+            d = saved(password, retries, job, step, place, attempts, room, whole)
+        except Refused as r:
+            said.append("- refused %s" % r)
+            continue
+        said.append(reported(step, line))
+        given = d.take(line)
+        assert step != "sending" or (said[-1] == "-") == given.endswith("=3")
+        step, place, attempts = d.step, d.place, d.attempts
+    return ", ".join(said)
+
+
+def x(*texts, password=b"", retries=1, job=encode(PAGES[:2]), step="sending", place=(0, 0), attempts=1, room=256, whole=False, late=False):
+    """What the device reports of replies, from a saved state on."""
+    lines = off_line(texts)
+    assert len(lines) <= 22 and room <= 512  # what the program has room for
+    call(named("x", whole, late), hexed(password), number(retries), hexed(job), "x" if step == "stopped" else step[0], number(place[0]), number(place[1]), number(attempts), number(room),
+         *map(hexed, lines), answer=lambda: reports_of(password, retries, job, step, place, attempts, room, lines, whole))
+
+
+def reports(rng):
+    steps, bad, wrote = ("opening", "logon", "sending", "closing", "stopped"), b"Bad phone line\r", b"wait\r\nID7 not known\r"
+    says = [b"ID=\r", b"ID= \r\n", wrote + b"\x06\rID8\r\x1b[p\r"] + [wrote + code + b"\r" for code in (b"\x06", b"\x15", b"\x1e", b"\x1b\x04")] + [b"\x06\r", UP[1], wrote, wrote + b"ID=\r", b"", UNREAD]
+    # every step, each kind of reply; the last sending of each
+    for step, said in itertools.product(steps, says):
+        x(said, step=step)
+    for step, said in itertools.product(steps[:4], (says[0], says[4], says[6])):
+        x(said, said, step=step, attempts=3 if step == "opening" else 2)
+    x(bad + b"\x1b\x04\r", step="logon"), x(bad + b"\x15\r", bad + wrote + b"\x15\r\n", step="logon"), x(wrote + UP[1], wrote + b"\x06\r", step="logon", late=True)
+    # from the state that a call starts in: lines in every reply, in replies that are not the wanted ones, and behind the stop
+    first = {"step": "opening", "retries": 2, "password": b"q7"}
+    talk = [UP[0], wrote + UP[1], b"ID1 queued\r\x06\r\n", bad + b"\x15\r", b"ID2 not known\r\nID2 again\r\n\x1e\r"]
+    for late in (False, True):
+        x(*talk, b"ID4 bye\r\x1b\x04\r", b"ID5\r\x06\r", UP[0], **first, late=late), x(*talk, wrote + b"\x15\r", b"bye\r\x1e\r", **first, late=late)
+        x(says[3], says[6], says[2], UP[0], **first, late=late), x(says[5], wrote, UP[0], wrote, UP[0], **first, late=late), x(*talk[:3], wrote + UP[1], says[3], **first, late=late)
+        x(*UP, says[3], says[3], UP[0], says[6], **first, late=late), x(*UP, says[4], says[4], says[4], says[4], **first, late=late), x(*UP, wrote + b"\x06\r", says[5], says[1], **first, late=late)
+    long = encode([sized(1, 250, 1), b"1\r\r"])
+    x(says[3], says[4], says[5], says[3], says[6], job=long, whole=True), x(says[3], says[2], job=long, place=(0, 2), whole=True), x(says[3], job=long, place=(0, 2)), x(*UP, says[5], says[6], job=encode([]), **first)
+    # refusals, of which none reports; one alone, and several at once
+    job = encode(PAGES[:2])
+    for wrong, step in itertools.product(({"retries": 10}, {"password": b"a b"}, {"attempts": 0}, {"attempts": 4}, {"room": 255}, {"room": 0, "job": job[1:]}, {"job": job[1:]}, {"job": b""}, {"place": (0, 1)},
+                                          {"place": (2, 0)}, {"job": encode([sized(251)]), "whole": True}, {"retries": 10, "room": 255}), ("sending", "closing")):
+        x(says[5], says[6], **wrong, step=step)
+    x(says[3], step="stopped", room=255), x(says[3], step="stopped", job=job[1:]), x(says[3], step="stopped", retries=10), x(says[6], step="logon", attempts=3), x(says[6], step="opening", attempts=4)
+    # all kinds
+    for _ in range(30):
+        codes = rng.choices((b"\x06\r", b"\x1e\r\n", b"\x15\r", b"\x1b\x04\r", b"\x06\r\x1b[p\r", b"ID=\r"), (6, 4, 4, 1, 1, 1), k=rng.randint(1, 6))
+        texts = [typed(rng.choices((b"", b"OK", b"ID", b"ID1 no"), k=rng.randint(0, 3)), b"\r", b"\r\n") + code for code in codes]
+        x(*texts, step=rng.choice(steps[:4]), retries=rng.randint(0, 2), job=encode(PAGES[:rng.randint(1, 4)]), whole=rng.random() < 0.3, late=rng.random() < 0.3)
+
+
 def main():
     rng = random.Random(1861)
     codec(rng)
@@ -1711,6 +1889,8 @@ def main():
     drivers(rng)
     late_runs(rng)
     late_devices()
+    remarks(random.Random(5))
+    reports(random.Random(5))
     crates = os.path.join(os.path.dirname(os.path.abspath(__file__)), "..", "crates")
     vectors = ["\n".join(rows + [""]).encode() for rows in (calls, answers)]
     for crate, files in (("vectors", vectors), ("blocks", program)):

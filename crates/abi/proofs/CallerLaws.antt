@@ -16,13 +16,14 @@ use Rattle.central.specs.Step.{stateBehind}
 use Rattle.central.specs.declared.state.Moved.{Moved}
 use Rattle.central.specs.declared.state.State as Central
 use Rattle.device.specs.Step as DeviceStep
-use Rattle.device.specs.Step.{Sent, moveOf, standingOf}
+use Rattle.device.specs.Step.{Sent, moveOf, standingOf, reportedBy}
 use Rattle.device.specs.declared.state.Stepped as Device
 use Rattle.call.specs.Call.{Played, Runs, ranAs}
 use Rattle.call.specs.declared.run.Ran.{Ran}
 use Rattle.reply.specs.declared.Meaning.the-variants.{IdRequest, Acceptance, Ack, Nak, Rs, Eot}
 use Rattle.reply.specs.declared.Reply.{Reply}
 use Rattle.reply.specs.declared.Reply.the-variants.{Recognized, Unrecognized}
+use Rattle.reply.specs.declared.remarks.Remarks.{Remarks}
 use Rattle.abi.proofs.RecordLaws.{record-back}
 use Rattle.abi.specs.Centrals as Centrals
 use Rattle.abi.specs.Devices as Devices
@@ -76,21 +77,22 @@ central-drops (refused n) s array {t} stage k e =
     e ∙ rw (k .answers, same, record-back s stage) refl
 
 -- of a step of the device
-pub device-packed : (s : DeviceState) (o : Outcome Sent) {w : Outcome ℕ} (t : Device.Stepped) →
+pub device-packed : (s : DeviceState) (remarks : Remarks) (o : Outcome Sent) {w : Outcome ℕ} (t : Device.Stepped) →
     w ≡ mapDone (λ x. length (x .string)) o → t .state .step ≡ moveOf (Devices.stepOf s) o .next → t .given ≡ moveOf (Devices.stepOf s) o .given →
-    t .report ≡ moveOf (Devices.stepOf s) o .report → t .standing ≡ standingOf (Devices.stepOf s) o →
-    Devices.packed s w t ≡ Devices.deviceAnswer s o
-device-packed s (done x) t counted next given report standing = rw (counted, next, given, report, standing) refl
-device-packed s (refused n) t counted next given report standing = rw counted refl
+    t .report ≡ moveOf (Devices.stepOf s) o .report → t .standing ≡ standingOf (Devices.stepOf s) o → t .remarks ≡ reportedBy o remarks →
+    Devices.packed s w t ≡ Devices.deviceAnswer s remarks o
+device-packed s remarks (done x) t counted next given report standing shown = rw (counted, next, given, report, standing, shown) refl
+device-packed s remarks (refused n) t counted next given report standing shown = rw counted refl
 
 -- so what a step owes is owed to a C caller
-pub device-steps : (o : Outcome Sent) {s : DeviceState} {t : Device.Stepped} {r : DeviceStepped} {out out′ : List ℕ} →
-    DeviceStep.Steps o (Devices.stepOf s) t out out′ → r ≡ Devices.packed s (writtenAs (t .outcome)) t → Devices.DeviceSteps o s r out out′
-device-steps o {s = s} {t = t} k e =
-    record { answers = e ∙ device-packed s o t (k .answers) (k .state) (k .gave) (k .reports) (k .stands); leaves = k .leaves }
+pub device-steps : (o : Outcome Sent) {s : DeviceState} {remarks : Remarks} {t : Device.Stepped} {r : DeviceStepped} {out out′ : List ℕ} →
+    DeviceStep.StepsShowing o (Devices.stepOf s) remarks t out out′ → r ≡ Devices.packed s (writtenAs (t .outcome)) t → Devices.DeviceSteps o s remarks r out out′
+device-steps o {s = s} {remarks = remarks} {t = t} w e =
+    let k = w .steps in
+    record { answers = e ∙ device-packed s remarks o t (k .answers) (k .state) (k .gave) (k .reports) (k .stands) (w .shows); leaves = k .leaves }
 
 -- and a refusal leaves all
-pub device-refused : {n : ℕ} {s : DeviceState} {r : DeviceStepped} (out : List ℕ) → r ≡ Devices.refusing s n → Devices.DeviceSteps (refused n) s r out out
+pub device-refused : {n : ℕ} {s : DeviceState} {remarks : Remarks} {r : DeviceStepped} (out : List ℕ) → r ≡ Devices.refusing s n → Devices.DeviceSteps (refused n) s remarks r out out
 device-refused out e = record { answers = e; leaves = overlay-none out }
 
 -- what a run owes is owed to a C caller

@@ -6,6 +6,8 @@ use lib.Dec.{eqb, ltb}
 use lib.ListN.{length}
 use Rattle.line.specs.Answer.{Outcome, done, refused, mapDone, output, overlay}
 use Rattle.line.specs.Test.{if_then_else_}
+use Rattle.reply.specs.declared.remarks.Remarks.{Remarks}
+use Rattle.reply.specs.declared.remarks.Remarks.the-variants.{Nothing}
 use Rattle.device.specs.Reaction.{place, verdictNumber}
 use Rattle.device.specs.Step as Device
 use Rattle.device.specs.declared.settling.Standing.{Standing}
@@ -18,6 +20,7 @@ use Rattle.device.specs.declared.state.Step.{Step}
 use Rattle.device.specs.declared.state.Step.the-variants.{Opening, Logon, Sending, Closing, Stopped}
 use Rattle.device.specs.declared.state.Stepped.{Stepped}
 use Rattle.abi.specs.Answer.{answerOf}
+use Rattle.abi.specs.Remarks.{remarksAs}
 use Rattle.abi.specs.Replies.{replyNumber}
 use Rattle.abi.specs.Settings.{deviceSettingsOf, ofSettings}
 use Rattle.abi.specs.Settling.{standingNumber}
@@ -83,11 +86,12 @@ deviceStepped s settings job reply room =
 
 -- a refusal by number, which leaves the record and gives nothing
 abbrev pub refusing : DeviceState → ℕ → DeviceStepped
-refusing s n = record { answer = answerOf (refused n); state = s; verdict = 0; transaction = 0; report = 0; standing = 0 }
+refusing s n =
+    record { answer = answerOf (refused n); state = s; verdict = 0; transaction = 0; report = 0; standing = 0; remarks = remarksAs Nothing }
 
--- a count, a move, and how the accepted verdicts stand
-abbrev pub giving : ℕ → Step → Given → Report → Standing → DeviceStepped
-giving n step given report standing =
+-- a count, a move, how the accepted verdicts stand, and the remarks
+abbrev pub giving : ℕ → Step → Given → Report → Standing → Remarks → DeviceStepped
+giving n step given report standing remarks =
     record {
       answer = answerOf (done n);
       state = recordOf step;
@@ -95,20 +99,22 @@ giving n step given report standing =
       transaction = transactionIn given;
       report = reportNumber report;
       standing = standingNumber standing;
+      remarks = remarksAs remarks;
     }
 
 -- what is answered of a step: a refusal leaves the record
 abbrev pub packed : DeviceState → Outcome ℕ → Stepped → DeviceStepped
-packed s (done n) t = giving n (t .state .step) (t .given) (t .report) (t .standing)
+packed s (done n) t = giving n (t .state .step) (t .given) (t .report) (t .standing) (t .remarks)
 packed s (refused n) t = refusing s n
 
--- the same of what a step comes to
-abbrev pub deviceAnswer : DeviceState → Outcome Device.Sent → DeviceStepped
-deviceAnswer s (done x) =
-    giving (length (x .string)) (x .move .next) (x .move .given) (x .move .report) (Device.standingOf (stepOf s) (done x))
-deviceAnswer s (refused n) = refusing s n
+-- the same of what a step comes to, with the remarks in its reply
+abbrev pub deviceAnswer : DeviceState → Remarks → Outcome Device.Sent → DeviceStepped
+deviceAnswer s remarks (done x) =
+    giving (length (x .string)) (x .move .next) (x .move .given) (x .move .report) (Device.standingOf (stepOf s) (done x)) remarks
+deviceAnswer s remarks (refused n) = refusing s n
 
 -- what a step owes a C caller: the numbers and the record, and the output
-pub record DeviceSteps (o : Outcome Device.Sent) (s : DeviceState) (r : DeviceStepped) (out out′ : List ℕ) : Type 0 where
-  pub answers : r ≡ deviceAnswer s o
+pub record DeviceSteps
+    (o : Outcome Device.Sent) (s : DeviceState) (remarks : Remarks) (r : DeviceStepped) (out out′ : List ℕ) : Type 0 where
+  pub answers : r ≡ deviceAnswer s remarks o
   pub leaves : out′ ≡ overlay (output (mapDone (λ x. x .string) o)) out

@@ -1,6 +1,7 @@
 pub mod Answer
 pub mod Text
 pub mod Replies
+pub mod Remarks
 pub mod Settings
 pub mod Settling
 pub mod Centrals

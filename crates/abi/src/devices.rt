@@ -4,6 +4,8 @@ use crate::answer::of_refusal;
 use crate::answer::of_written;
 use crate::password::Password;
 use crate::password::password_of;
+use crate::remarks;
+use crate::remarks::Remarks;
 use crate::replies::reply_number;
 use crate::settling::CONFIRMATIONS;
 use crate::settling::confirmation_of;
@@ -25,6 +27,8 @@ use line::Written;
 ghost use mathlib.Core.Path.{_≡_};
 ghost use lib.ListN.{length};
 ghost use Rattle.line.specs.Answer.{refusalNumber, writtenAs};
+ghost use Rattle.reply.specs.declared.remarks.Remarks.the-variants as Remark;
+ghost use Rattle.device.specs.Remarks.{remarksAt};
 ghost use Rattle.device.specs.Step.{started};
 ghost use Rattle.abi.specs.Devices.{DeviceSteps, deviceStepped, filled, packed, recordOf, refusing};
 ghost use Rattle.abi.specs.Devices.{reportNumber, stepOf, stopped, transactionIn, verdictIn};
@@ -52,7 +56,8 @@ pub struct DeviceState {
 
 // The verdict that a step gives, 0 where it gives none, and on which transaction; the reply to the
 // close: 0 where this step reports none, else 1 plus its number; silence is a reply not recognized, so 1;
-// and how the accepted verdicts stand: 0 open, 1 confirmed, 2 in doubt.
+// how the accepted verdicts stand: 0 open, 1 confirmed, 2 in doubt; and where the central's lines stand
+// in the reply.
 #[repr(C)]
 pub struct DeviceStepped {
     pub answer: Answer,
@@ -61,6 +66,7 @@ pub struct DeviceStepped {
     pub transaction: usize,
     pub report: u8,
     pub standing: u8,
+    pub remarks: Remarks,
 }
 
 // The highest number of a step.
@@ -76,7 +82,7 @@ pub extern "C" fn tyntolai_device_start(
     ensures { λ r. ⌜
         DeviceSteps
         (ofSettings settings (started (deviceSettingsOf settings) (now (job .entry)) (length (now (out .entry)))))
-        stopped r (now (out .entry)) (now (out .exit)) ⌝ }
+        stopped Remark.Nothing r (now (out .entry)) (now (out .exit)) ⌝ }
 {
     let stopped = record_of(Step::Stopped);
     if !has_numbers(settings) {
@@ -97,7 +103,7 @@ pub extern "C" fn tyntolai_device_step(
     ensures { λ r. ⌜
         DeviceSteps
         (deviceStepped state settings (now (job .entry)) (now (reply .entry)) (length (now (out .entry))))
-        state r (now (out .entry)) (now (out .exit)) ⌝ }
+        state (remarksAt (stepOf state) (now (reply .entry))) r (now (out .entry)) (now (out .exit)) ⌝ }
 {
     if STEPS < state.step {
         return refuse(state, Refusal::Range);
@@ -126,6 +132,7 @@ fn pack(state: DeviceState, stepped: Stepped) -> DeviceStepped
     let given = stepped.given;
     let report = stepped.report;
     let standing = stepped.standing;
+    let shown = stepped.remarks;
     match outcome {
         Written::Count(_) => DeviceStepped {
             answer: of_written(outcome),
@@ -134,6 +141,7 @@ fn pack(state: DeviceState, stepped: Stepped) -> DeviceStepped
             transaction: transaction_in(given),
             report: report_number(report),
             standing: standing_number(standing),
+            remarks: remarks::record_of(shown),
         },
         Written::Refused(refusal) => refuse(state, refusal),
     }
@@ -149,6 +157,7 @@ fn refuse(state: DeviceState, refusal: Refusal) -> DeviceStepped
         transaction: 0,
         report: 0,
         standing: 0,
+        remarks: remarks::record_of(reply::Remarks::Nothing),
     }
 }
 

@@ -6,6 +6,7 @@ pub mod devices;
 pub mod framers;
 pub mod journals;
 pub mod password;
+pub mod remarks;
 pub mod replies;
 pub mod run;
 pub mod settling;

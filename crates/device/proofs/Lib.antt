@@ -6,6 +6,7 @@ pub mod MeaningLaws
 pub mod MoveLaws
 pub mod PlaceLaws
 pub mod RangeLaws
+pub mod RemarksLaws
 pub mod SegmentsLaws
 pub mod SettlingLaws
 pub mod StepLaws

@@ -19,9 +19,11 @@ use Rattle.journal.specs.declared.record.Located.{Located}
 use Rattle.journal.specs.declared.record.Surveyed.{Surveyed}
 use Rattle.journal.specs.declared.record.Surveyed.the-variants.{Found, Refused}
 use Rattle.reply.specs.Reading.{replyRead}
+use Rattle.reply.specs.declared.remarks.Remarks.{Remarks}
+use Rattle.reply.specs.declared.remarks.Remarks.the-variants.{Nothing}
 use Rattle.device.specs.Inner.{transactionOf}
 use Rattle.device.specs.Reaction.{Move, goes, first, moves}
-use Rattle.device.specs.Step.{settingsInRange, stepInRange, cutsAll, exists, Sent, sent, tested, stepped, started, standingOf, answered, Steps}
+use Rattle.device.specs.Step.{settingsInRange, stepInRange, cutsAll, exists, Sent, sent, tested, stepped, started, standingOf, answered, StepsShowing}
 use Rattle.device.specs.declared.settling.Standing.{Standing}
 use Rattle.device.specs.declared.settling.Standing.the-variants.{Open}
 use Rattle.device.specs.declared.state.Settings.{Settings}
@@ -33,21 +35,29 @@ use Rattle.device.specs.declared.state.Stepped.{Stepped}
 -- ── What is owed ──
 
 -- a refusal leaves state and memory
-pub steps-refused : {o : Outcome Sent} {r : Stepped} (w : Written) (step : Step) (n : ℕ) (out : List ℕ) →
-    o ≡ refused n → writtenAs w ≡ refused n → r ≡ answered w Open (goes step) → Steps o step r out out
-steps-refused w step n out e a q = rw (q, e) (record { answers = a; state = refl; gave = refl; numbers = refl; reports = refl; stands = refl; leaves = overlay-none out })
+pub steps-refused : {o : Outcome Sent} {remarks : Remarks} {r : Stepped} (w : Written) (step : Step) (n : ℕ) (out : List ℕ) →
+    o ≡ refused n → writtenAs w ≡ refused n → r ≡ answered w Open Nothing (goes step) → StepsShowing o step remarks r out out
+steps-refused w step n out e a q =
+    rw (q, e) (record {
+      steps = record { answers = a; state = refl; gave = refl; numbers = refl; reports = refl; stands = refl; leaves = overlay-none out };
+      shows = refl;
+    })
 
 -- a move is answered with the count of the string that was put out
-pub steps-done : {o : Outcome Sent} {r : Stepped} {standing : Standing} (x : Sent) (step : Step) (n : ℕ) (out after : List ℕ) →
-    o ≡ done x → Laid (x .string) n out after → standing ≡ standingOf step (done x) → r ≡ answered (Count n) standing (x .move) → Steps o step r out after
+pub steps-done : {o : Outcome Sent} {remarks : Remarks} {r : Stepped} {standing : Standing} (x : Sent) (step : Step) (n : ℕ) (out after : List ℕ) →
+    o ≡ done x → Laid (x .string) n out after → standing ≡ standingOf step (done x) → r ≡ answered (Count n) standing remarks (x .move) → StepsShowing o step remarks r out after
 steps-done x step n out after e d s q =
     let counts = d .counts in
-    rw (q, e) (record { answers = cc; state = refl; gave = refl; numbers = refl; reports = refl; stands = s; leaves = d .leaves })
+    rw (q, e) (record {
+      steps = record { answers = cc; state = refl; gave = refl; numbers = refl; reports = refl; stands = s; leaves = d .leaves };
+      shows = refl;
+    })
 
 -- a move that was sent is what the outcome asks
-pub steps-sent : {o : Outcome Sent} (settings : Settings) (ts : List (List ℕ)) {m m′ : Move} {step : Step} {r : Stepped} {out after : List ℕ} →
-    o ≡ done (sent settings ts m′) → m ≡ m′ → Steps (done (sent settings ts m)) step r out after → Steps o step r out after
-steps-sent settings ts {step = step} {r = r} {out = out} {after = after} e moved w = rw e (subst (λ m. Steps (done (sent settings ts m)) step r out after) moved w)
+pub steps-sent : {o : Outcome Sent} (settings : Settings) (ts : List (List ℕ)) {m m′ : Move} {step : Step} {remarks : Remarks} {r : Stepped} {out after : List ℕ} →
+    o ≡ done (sent settings ts m′) → m ≡ m′ → StepsShowing (done (sent settings ts m)) step remarks r out after → StepsShowing o step remarks r out after
+steps-sent settings ts {step = step} {remarks = remarks} {r = r} {out = out} {after = after} e moved w =
+    rw e (subst (λ m. StepsShowing (done (sent settings ts m)) step remarks r out after) moved w)
 
 -- settings in range: a password, and the retry limit
 pub settings-parts : (s : Settings) → settingsInRange s ≡ true → (passwordInRange (s .password) ≡ true) × (s .retries ≤ 9)

@@ -13,6 +13,8 @@ use Rattle.journal.specs.Walk.{decode}
 use Rattle.segmentation.specs.Segmentation.{cuttable}
 use Rattle.segmentation.specs.declared.way.Way.{Way}
 use Rattle.reply.specs.Reading.{replyRead}
+use Rattle.reply.specs.declared.remarks.Remarks.{Remarks}
+use Rattle.reply.specs.declared.remarks.Remarks.the-variants.{Nothing}
 use Rattle.device.specs.Reaction.{Move, moves, goes, givenAs, blocksIn, first, stringBytes}
 use Rattle.device.specs.Settling.{isStopped, standingAt}
 use Rattle.device.specs.declared.settling.Standing.{Standing}
@@ -109,10 +111,17 @@ abbrev pub standingOf : Step → Outcome Sent → Standing
 standingOf step (done x) = if isStopped step then Open else x .standing
 standingOf step (refused n) = Open
 
--- what is answered: the outcome, how the accepted verdicts stand, and a move
-abbrev pub answered : Written → Standing → Move → Stepped
-answered w standing m =
-    record { outcome = w; state = record { step = m .next }; given = m .given; report = m .report; standing = standing }
+-- what is answered: the outcome, how the accepted verdicts stand, the remarks, and a move
+abbrev pub answered : Written → Standing → Remarks → Move → Stepped
+answered w standing remarks m =
+    record {
+      outcome = w;
+      state = record { step = m .next };
+      given = m .given;
+      report = m .report;
+      standing = standing;
+      remarks = remarks;
+    }
 
 -- what a step owes: the count, the state, the verdict, its number, the report, how the accepted verdicts stand, and the output
 -- (R-6.7, R-6.11)
@@ -124,3 +133,13 @@ pub record Steps (o : Outcome Sent) (step : Step) (r : Stepped) (out out′ : Li
   pub reports : r .report ≡ moveOf step o .report
   pub stands : r .standing ≡ standingOf step o
   pub leaves : out′ ≡ overlay (output (mapDone (λ x. x .string) o)) out
+
+-- the remarks that an outcome reports, of those in the reply: none where the step is refused (R-6.13)
+abbrev pub reportedBy : Outcome Sent → Remarks → Remarks
+reportedBy (done x) remarks = remarks
+reportedBy (refused n) remarks = Nothing
+
+-- what a step owes, and the remarks in its reply (R-6.13)
+pub record StepsShowing (o : Outcome Sent) (step : Step) (remarks : Remarks) (r : Stepped) (out out′ : List ℕ) : Type 0 where
+  pub steps : Steps o step r out out′
+  pub shows : r .remarks ≡ reportedBy o remarks

@@ -2,6 +2,7 @@
 pub mod job;
 pub mod range;
 mod reaction;
+mod remarks;
 pub mod settling;
 pub mod state;
 pub mod step;

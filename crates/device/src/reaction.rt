@@ -138,7 +138,7 @@ fn sends(settings: Settings, count: usize, blocks: usize, place: Place, reply: R
 
 // A reply as the block's step reads it: an ID request and a logon acceptance are
 // unrecognized there (document 01's unread).
-fn block_reply(reply: Reply) -> BlockReply
+pub(crate) fn block_reply(reply: Reply) -> BlockReply
     ensures { λ r. ⌜ r ≡ Reaction.blockReply reply ⌝ }
 {
     let Reply::Recognized(meaning) = reply else {

@@ -2,6 +2,7 @@
 use crate::settling::Standing;
 use line::Password;
 use line::Written;
+use reply::Remarks;
 use reply::Reply;
 use segmentation::Way;
 ghost use mathlib.Core.Path.{_≡_};
@@ -88,12 +89,14 @@ pub enum Report {
     Nothing,
 }
 
-// The bytes put out, or the refusal; the state behind the step; what it gives and reports; and, at
-// the stop, what becomes of the accepted verdicts given before.
+// The bytes put out, or the refusal; the state behind the step; what it gives and reports; at the
+// stop, what becomes of the accepted verdicts given before; and where the central's lines stand in
+// the reply that was read.
 pub struct Stepped {
     pub outcome: Written,
     pub state: State,
     pub given: Given,
     pub report: Report,
     pub standing: Standing,
+    pub remarks: Remarks,
 }

@@ -8,6 +8,7 @@ use crate::reaction::Move;
 use crate::reaction::first;
 use crate::reaction::goes;
 use crate::reaction::moves;
+use crate::remarks::counted_as;
 use crate::settling::Standing;
 use crate::settling::standing_after;
 use crate::state::Settings;
@@ -22,7 +23,9 @@ use journal::record::Surveyed;
 use journal::record::survey;
 use line::Refusal;
 use line::Written;
+use reply::Remarks;
 use reply::read;
+use reply::remarks::remarks_of;
 ghost use mathlib.Core.Bool.{true};
 ghost use mathlib.Core.List.{List};
 ghost use mathlib.Core.Path.{_≡_};
@@ -32,15 +35,17 @@ ghost use Rattle.line.specs.Answer.{done, mapDone};
 ghost use Rattle.line.specs.Password.{passwordInRange};
 ghost use Rattle.journal.specs.Survey.{surveyOf, surveyedAs};
 ghost use Rattle.device.specs.Inner.{Waits, extentFor, transactionOf};
+ghost use Rattle.reply.specs.declared.remarks.Remarks.the-variants as Remark;
 ghost use Rattle.device.specs.Reaction.{moveAs};
-ghost use Rattle.device.specs.Step.{Steps, answered, sent, started, stepped, tested};
+ghost use Rattle.device.specs.Remarks.{remarksAt};
+ghost use Rattle.device.specs.Step.{StepsShowing, answered, sent, started, stepped, tested};
 ghost use Rattle.device.specs.declared.state.Step.the-variants as Variants;
 
 // The start of a call for a job, a journal lent at its exact length: the first string and state.
 pub fn start(settings: Settings, job: &[u8], out: &mut [u8]) -> Stepped
     ensures { λ r. ⌜
-        Steps (started settings (now (job .entry)) (length (now (out .entry))))
-        Variants.Stopped r (now (out .entry)) (now (out .exit))
+        StepsShowing (started settings (now (job .entry)) (length (now (out .entry))))
+        Variants.Stopped Remark.Nothing r (now (out .entry)) (now (out .exit))
         ⌝ }
 {
     match test(settings, Step::Stopped, job, out.len()) {
@@ -51,12 +56,14 @@ pub fn start(settings: Settings, job: &[u8], out: &mut [u8]) -> Stepped
                 part(job, here),
                 Step::Stopped,
                 goes(Step::Opening(first())),
+                Remarks::Nothing,
                 out,
             )
         }
         Surveyed::Refused(refusal) => answer(
             Written::Refused(refusal),
             Standing::Open,
+            Remarks::Nothing,
             goes(Step::Stopped),
         ),
     }
@@ -65,8 +72,8 @@ pub fn start(settings: Settings, job: &[u8], out: &mut [u8]) -> Stepped
 // What the device does with a reply as it came off the line; the empty string where nothing came.
 pub fn step(state: State, settings: Settings, job: &[u8], reply: &[u8], out: &mut [u8]) -> Stepped
     ensures { λ r. ⌜
-        Steps (stepped state settings (now (job .entry)) (now (reply .entry)) (length (now (out .entry))))
-        (state .step) r (now (out .entry)) (now (out .exit))
+        StepsShowing (stepped state settings (now (job .entry)) (now (reply .entry)) (length (now (out .entry))))
+        (state .step) (remarksAt (state .step) (now (reply .entry))) r (now (out .entry)) (now (out .exit))
         ⌝ }
 {
     let step = state.step;
@@ -74,11 +81,20 @@ pub fn step(state: State, settings: Settings, job: &[u8], reply: &[u8], out: &mu
         Surveyed::Found(found) => {
             let count = found.count;
             let here = found.here;
-            let next = moves(settings, count, part(job, here), step, read(reply));
+            let info = part(job, here);
+            let heard = read(reply);
+            let next = moves(settings, count, info, step, heard);
             let extent = extent_for(found, step, next);
-            send(settings, part(job, extent), step, next, out)
+            let following = part(job, extent);
+            let remarks = remarks_of(counted_as(step, heard), reply);
+            send(settings, following, step, next, remarks, out)
         }
-        Surveyed::Refused(refusal) => answer(Written::Refused(refusal), Standing::Open, goes(step)),
+        Surveyed::Refused(refusal) => answer(
+            Written::Refused(refusal),
+            Standing::Open,
+            Remarks::Nothing,
+            goes(step),
+        ),
     }
 }
 
@@ -138,8 +154,15 @@ fn extent_for(found: Located, step: Step, next: Move) -> Extent
 }
 
 // A move from a step, with the string of the step that it leads to, whose transaction has this
-// information.
-fn send(settings: Settings, info: &[u8], step: Step, next: Move, out: &mut [u8]) -> Stepped
+// information, and the remarks in the reply.
+fn send(
+    settings: Settings,
+    info: &[u8],
+    step: Step,
+    next: Move,
+    remarks: Remarks,
+    out: &mut [u8],
+) -> Stepped
     requires { ⌜
         (passwordInRange (settings .password) ≡ true)
         × ((job : List (List ℕ)) × Waits settings job (next .step) (now info))
@@ -147,7 +170,7 @@ fn send(settings: Settings, info: &[u8], step: Step, next: Move, out: &mut [u8])
         ⌝ }
     ensures { λ r. ⌜
         ((job : List (List ℕ)) → Waits settings job (next .step) (now (info .entry)) →
-        Steps (done (sent settings job (moveAs next))) step r (now (out .entry)) (now (out .exit)))
+        StepsShowing (done (sent settings job (moveAs next))) step remarks r (now (out .entry)) (now (out .exit)))
         ⌝ }
 {
     let following = next.step;
@@ -155,13 +178,14 @@ fn send(settings: Settings, info: &[u8], step: Step, next: Move, out: &mut [u8])
     answer(
         Written::Count(n),
         standing_after(settings, step, next),
+        remarks,
         next,
     )
 }
 
-// What the call comes to, how the accepted verdicts stand, and the move.
-fn answer(outcome: Written, standing: Standing, next: Move) -> Stepped
-    ensures { λ r. ⌜ r ≡ answered outcome standing (moveAs next) ⌝ }
+// What the call comes to, how the accepted verdicts stand, the remarks, and the move.
+fn answer(outcome: Written, standing: Standing, remarks: Remarks, next: Move) -> Stepped
+    ensures { λ r. ⌜ r ≡ answered outcome standing remarks (moveAs next) ⌝ }
 {
     let step = next.step;
     let given = next.given;
@@ -172,5 +196,6 @@ fn answer(outcome: Written, standing: Standing, next: Move) -> Stepped
         given,
         report,
         standing,
+        remarks,
     }
 }

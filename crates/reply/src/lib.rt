@@ -1,5 +1,7 @@
 // What the entry device may read. Every byte string has exactly the meaning that the grammar of
 // document 01 gives it; any other string is unrecognized, and carries nothing to act on.
+pub mod remarks;
+
 use line::Written;
 use line::character::ACK;
 use line::character::CR;
@@ -11,6 +13,9 @@ use line::character::NAK;
 use line::character::RS;
 use line::character::is;
 use line::parity::clear_parity;
+pub use remarks::IdLine;
+pub use remarks::Remarks;
+pub use remarks::Span;
 ghost use mathlib.Core.Bool.{_&&_, _||_};
 ghost use mathlib.Core.Path.{_≡_};
 ghost use Prim.Native.Nat.{_≤_};

@@ -27,6 +27,7 @@ use crate::names::COMMA;
 use crate::names::NOTHING;
 use crate::names::SPACE;
 use crate::names::say;
+use crate::remarks::print_remarks;
 use crate::runs::print_run;
 use block::Ending;
 use block::Reading;
@@ -49,6 +50,7 @@ use line::memory::copy;
 use reassembly::Reassembled;
 use reassembly::Reassembly;
 use reassembly::reassemble;
+use reply::remarks::read_remarks;
 use segmentation::Way;
 use segmentation::block_count;
 use segmentation::write_segment;
@@ -78,6 +80,7 @@ pub(crate) fn print_answer(call: &[u8]) {
         b'b' => print_sums(call),
         b'r' => print_block(text),
         b'y' => say(reply_name(reply::read(text))),
+        b'h' => print_remarks(NOTHING, read_remarks(text)),
         b'j' => print_reassembly(call),
         b'k' => print_check(text),
         b'v' => print_walk(text),
@@ -138,7 +141,7 @@ fn loan_of(call: &[u8]) -> Loan
             filler: verdict_number(Verdict::Unsent),
         },
         b'e' => output_of(512),
-        b'g' => output_of(number(call, 8)),
+        b'g' | b'x' => output_of(number(call, 8)),
         b'm' => output_of(number(call, ROOM)),
         b'i' => memory_of(text(call).len() % 65536),
         _ => memory_of(number(call, 1)),
@@ -174,7 +177,7 @@ fn print_lent(call: &[u8], pagers: &[u32], memory: &mut [u8], out: &mut [u8]) {
     match letter_of(call) {
         b'd' | b'f' => print_conversation(call, pagers, memory, out),
         b'u' => print_run(call, pagers, memory, out),
-        b'e' | b'g' => print_play(call, out),
+        b'e' | b'g' | b'x' => print_play(call, out),
         b'l' => print_driver(call, memory, out),
         b'm' => print_framing(call, out),
         b'i' => print_settled(call, memory),

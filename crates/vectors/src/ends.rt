@@ -15,8 +15,10 @@ use crate::argument::word;
 use crate::calls::print_outcome;
 use crate::names;
 use crate::names::COMMA;
+use crate::names::NOTHING;
 use crate::names::SPACE;
 use crate::names::say;
+use crate::remarks::print_reported;
 use central::Stage;
 use device::Given;
 use device::Place;
@@ -204,7 +206,8 @@ pub(crate) struct Begun {
     pub(crate) before: u8,
 }
 
-// What the entry device sends first, or why it does not start; and what it does with each reply.
+// What the entry device sends first, or why it does not start; and what it does with each reply. Or,
+// at both, where it reports that the central's lines stand.
 pub(crate) fn print_play(call: &[u8], string: &mut [u8]) {
     let count = byte(call, COUNT);
     let begun = begin(call, string);
@@ -225,6 +228,11 @@ pub(crate) fn begin(call: &[u8], string: &mut [u8]) -> Begun {
     let started = device::step::start(device_settings(call, 1), word(call, JOB), string);
     let outcome = started.outcome;
     let state = started.state;
+    if letter_of(call) == b'x' {
+        let remarks = started.remarks;
+        print_reported(NOTHING, remarks, outcome);
+        return saved_device(call);
+    }
     print_outcome(call, outcome, string);
     if letter_of(call) == b'g' {
         return saved_device(call);
@@ -270,6 +278,11 @@ fn take(call: &[u8], reply: &[u8], state: device::State, string: &mut [u8]) -> d
     let settings = device_settings(call, 1);
     let stepped = device::step::step(state, settings, word(call, JOB), reply, string);
     let outcome = stepped.outcome;
+    if letter_of(call) == b'x' {
+        let remarks = stepped.remarks;
+        print_reported(COMMA, remarks, outcome);
+        return stepped.state;
+    }
     let given = stepped.given;
     let report = stepped.report;
     print_given(given, report);

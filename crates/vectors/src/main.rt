@@ -8,6 +8,7 @@ mod driver;
 mod ends;
 mod framing;
 mod names;
+mod remarks;
 mod runs;
 
 use line::character::LF;

@@ -24,6 +24,9 @@ report-number-requires c κs = search needs
 standing-number-requires : tie.Need-standing-number-requires
 standing-number-requires c κs = search needs
 
+record-of-requires-2 : tie.Need-record-of-requires-2
+record-of-requires-2 c κs = search needs
+
 enum-known-outcome : tie.Need-enum-known-outcome
 enum-known-outcome c = search needs
 
@@ -32,8 +35,9 @@ refuse-requires c κs = search needs
 
 returns : tie.Need-returns
 returns c =
-    let t = c .before in
-    rw (c .standing-number .ensures, t .report-number .ensures, t .before .transaction-in .ensures, t .before .before .verdict-in .ensures, t .before .before .before .record-of .ensures, t .before .before .before .before .of-written .ensures, t .before .before .before .before .before .enum-told .given .1)
+    let n = c .before in
+    let t = n .before in
+    rw (c .record-of2 .ensures, n .standing-number .ensures, t .report-number .ensures, t .before .transaction-in .ensures, t .before .before .verdict-in .ensures, t .before .before .before .record-of .ensures, t .before .before .before .before .of-written .ensures, t .before .before .before .before .before .enum-told .given .1)
 
 returns-2 : tie.Need-returns-2
 returns-2 c = rw (c .refuse .ensures, c .before .before .outcome .given .1)
@@ -49,6 +53,7 @@ pack-spec =
     transaction-in-requires
     report-number-requires
     standing-number-requires
+    record-of-requires-2
     enum-known-outcome
     refuse-requires
     returns

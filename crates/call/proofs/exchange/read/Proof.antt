@@ -24,7 +24,7 @@ same-length-2 : tie.Need-same-length-2
 same-length-2 c = search needs
 
 returns : tie.Need-returns
-returns c = rw (c .before .before .before .before .before .before .before .arrive .ensures .arrived) at (c .before .before .step .ensures)
+returns c = rw (c .before .before .before .before .before .before .before .arrive .ensures .arrived) at (c .before .before .step .ensures .steps)
 
 pub read-spec : {M : Type 1} → statement M
 read-spec =

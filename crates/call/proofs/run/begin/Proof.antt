@@ -33,7 +33,7 @@ play-requires c κs =
     let d = counted .before .before .before .before in
     let cleared = d .before .before .before .before in
     let p = cleared .before .before .before .before .before .before .before .pre in
-    let steps = started-steps (p .sound) (d .start .ensures) (omega (arith, slice-aggregate-start (d .before))) in
+    let steps = started-steps (p .sound) (d .start .ensures .steps) (omega (arith, slice-aggregate-start (d .before))) in
     begins p _ steps (counted .count .ensures) (counted .before .start2 .ensures) (cleared .clear .ensures) (sym (slice-aggregate-play (c .before .before))) (sym (slice-aggregate-play-2 (c .before)))
 
 same-length : tie.Need-same-length

@@ -6,6 +6,7 @@ use lib.ListN.{length}
 use Rattle.line.specs.Answer.{done}
 use Rattle.journal.specs.Survey.{surveyOf}
 use Rattle.journal.proofs.EncodingLaws.{decode-legal}
+use Rattle.reply.specs.declared.remarks.Remarks.the-variants.{Nothing}
 use Rattle.device.specs.Inner.{Waits}
 use Rattle.device.specs.Reaction.{goes}
 use Rattle.device.specs.Step.{answered, tested}
@@ -90,7 +91,7 @@ returns-2 : tie.Need-returns-2
 returns-2 c =
     let r = c .before .before .before in
     let a = r .before .before .before .before .before .args in
-    steps-refused _ Stopped _ _ (started-refused (a .settings) (a .job .now) _ _ (surveyed-refused (a .settings) Stopped (a .job .now) _ (r .before .before .test .ensures) (r .refusal .given .1))) refl (c .answer .ensures ∙ ap (answered _ Open) (c .before .goes2 .ensures))
+    steps-refused _ Stopped _ _ (started-refused (a .settings) (a .job .now) _ _ (surveyed-refused (a .settings) Stopped (a .job .now) _ (r .before .before .test .ensures) (r .refusal .given .1))) refl (c .answer .ensures ∙ ap (answered _ Open Nothing) (c .before .goes2 .ensures))
 
 pub start-spec : {M : Type 1} → statement M
 start-spec =

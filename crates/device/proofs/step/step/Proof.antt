@@ -7,8 +7,10 @@ use Rattle.line.specs.Answer.{done}
 use Rattle.journal.specs.Survey.{Lies, surveyOf}
 use Rattle.journal.proofs.EncodingLaws.{decode-legal}
 use Rattle.reply.specs.Reading.{replyRead}
+use Rattle.reply.specs.declared.remarks.Remarks.the-variants.{Nothing}
 use Rattle.device.specs.Inner.{Waits, transactionOf}
 use Rattle.device.specs.Reaction.{moveAs, moves}
+use Rattle.device.specs.Remarks.{remarksAt}
 use Rattle.device.specs.Step.{answered, tested}
 use Rattle.device.proofs.MoveLaws.{moves-lead}
 use Rattle.device.proofs.PlaceLaws.{moves-exist}
@@ -94,6 +96,15 @@ waits-near c =
       shows = rw (c .part2 .ensures, lies-near (c .before) .holds, next) shows;
     }
 
+-- the remarks are those of the reply, as the step counts it
+shown : (c : tie.After-remarks-of) →
+    let k = c .before .before .before .before .before .before .before .before .before in
+    let a = k .before .before .before .before .before .before .args in
+    c .remarks-of .result ≡ remarksAt (a .state .step) (a .reply .now)
+shown c =
+    let r = c .before .before .before .before .before in
+    rw (c .before .counted-as .ensures, r .read .ensures) at (c .remarks-of .ensures)
+
 test-requires : tie.Need-test-requires
 test-requires c κs = search needs
 
@@ -118,9 +129,15 @@ extent-for-requires c κs = search needs
 part-requires-2 : tie.Need-part-requires-2
 part-requires-2 c κs = lies-near c .inside
 
+counted-as-requires : tie.Need-counted-as-requires
+counted-as-requires c κs = search needs
+
+remarks-of-requires : tie.Need-remarks-of-requires
+remarks-of-requires c κs = search needs
+
 send-requires : tie.Need-send-requires
 send-requires c κs =
-    let p = c .before in
+    let p = c .before .before .before in
     let (ts, _, passes, _) = passing (p .before .before .before .before .before .before .before) in
     (passes .password, (ts, waits-near p), passes .fits)
 
@@ -139,18 +156,19 @@ same-length c = search needs
 returns : tie.Need-returns
 returns c =
     let s = c .before .before in
-    let p = s .before .before in
+    let w = s .before .before in
+    let p = w .before .before in
     let m = p .before .before in
     let k = m .before .before .before .before .before in
     let a = k .before .before .before .before .before .before .args in
     let (ts, whole, _, _) = passing k in
-    steps-sent (a .settings) ts (stepped-done (a .state) (a .settings) (a .job .now) (a .reply .now) _ ts whole) (moved m) (s .send .ensures ts (waits-near p))
+    steps-sent (a .settings) ts (stepped-done (a .state) (a .settings) (a .job .now) (a .reply .now) _ ts whole) (moved m) (rw (shown w) at (s .send .ensures ts (waits-near p)))
 
 returns-2 : tie.Need-returns-2
 returns-2 c =
     let r = c .before .before .before in
     let a = r .before .before .before .before .before .before .args in
-    steps-refused _ (a .state .step) _ _ (stepped-refused (a .state) (a .settings) (a .job .now) (a .reply .now) _ _ (surveyed-refused (a .settings) (a .state .step) (a .job .now) _ (r .before .before .test .ensures) (r .refusal .given .1))) refl (c .answer .ensures ∙ ap (answered _ Open) (c .before .goes .ensures))
+    steps-refused _ (a .state .step) _ _ (stepped-refused (a .state) (a .settings) (a .job .now) (a .reply .now) _ _ (surveyed-refused (a .settings) (a .state .step) (a .job .now) _ (r .before .before .test .ensures) (r .refusal .given .1))) refl (c .answer .ensures ∙ ap (answered _ Open Nothing) (c .before .goes .ensures))
 
 pub step-spec : {M : Type 1} → statement M
 step-spec =
@@ -163,6 +181,8 @@ step-spec =
     moves-requires
     extent-for-requires
     part-requires-2
+    counted-as-requires
+    remarks-of-requires
     send-requires
     enum-known-refusal
     goes-requires
