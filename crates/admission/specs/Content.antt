@@ -28,9 +28,17 @@ unfoldable pub listed : ℕ → List ℕ → Bool
 listed n [] = false
 listed n (m ∷ ms) = eqb n m || listed n ms
 
--- a pager number of 1 to 8 digits that is listed (R-8.2)
+-- a pager ID: 1 to 8 digits (R-8.2)
+abbrev pub isPagerId : List ℕ → Bool
+isPagerId f = leb 1 (length f) && leb (length f) 8 && all digit f
+
+-- a pager ID whose number is listed (R-8.2)
 abbrev pub pages : List ℕ → List ℕ → Bool
-pages pagers f = leb 1 (length f) && leb (length f) 8 && all digit f && listed (numberFrom 0 f) pagers
+pages pagers f = isPagerId f && listed (numberFrom 0 f) pagers
+
+-- a page: two fields, the first a pager ID, listed or not (R-15.9)
+unfoldable pub isPage : List ℕ → Bool
+isPage t = eqb (fieldCount t) 2 && isPagerId (firstField t)
 
 -- the content rules of a whole transaction: at most L characters, two fields, the first a listed pager number (R-8.2)
 unfoldable pub content : ℕ → List ℕ → List ℕ → Bool

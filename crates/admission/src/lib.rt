@@ -17,7 +17,7 @@ ghost use lib.ListN as ListN;
 ghost use Rattle.line.specs.Test.{all};
 ghost use Rattle.line.specs.Character.{digit};
 ghost use Rattle.admission.specs.Admission.{Admits, admitTo};
-ghost use Rattle.admission.specs.Content.{content, fieldCount, listed, numberFrom, pages};
+ghost use Rattle.admission.specs.Content.{content, fieldCount, isPage, isPagerId, listed, numberFrom, pages};
 
 // What becomes of information that is offered to a journal.
 pub enum Admitted {
@@ -29,8 +29,8 @@ pub enum Admitted {
     Refused(Refusal),
 }
 
-// The most digits of a pager number.
-const DIGITS: usize = 8;
+// The most digits of a pager ID.
+pub const DIGITS: usize = 8;
 
 // The information goes into the journal of this length at the start of the buffer, where content
 // and room admit it. The journal's records were checked before: none is looked at.
@@ -98,17 +98,26 @@ fn count_fields(info: &[u8]) -> usize
 fn names_pager(field: &[u8], pagers: &[u32]) -> bool
     ensures { λ r. ⌜ r ≡ pages (now (pagers .entry)) (now (field .entry)) ⌝ }
 {
-    let n = field.len();
-    if n < 1 {
-        return false;
-    }
-    if DIGITS < n {
-        return false;
-    }
-    if !are(field, Class::Digit) {
+    if !is_pager_id(field) {
         return false;
     }
     is_listed(number(field), pagers)
+}
+
+// A page: two fields, the first a pager ID, listed or not.
+pub fn is_page(info: &[u8]) -> bool
+    ensures { λ r. ⌜ r ≡ isPage (now (info .entry)) ⌝ }
+{
+    let end = find(info, 0, CR);
+    (count_fields(info) == 2) & is_pager_id(&info[..end])
+}
+
+// A pager ID: 1 to 8 digits.
+pub fn is_pager_id(field: &[u8]) -> bool
+    ensures { λ r. ⌜ r ≡ isPagerId (now (field .entry)) ⌝ }
+{
+    let n = field.len();
+    (1 <= n) & (n <= DIGITS) & are(field, Class::Digit)
 }
 
 // The number that so few digits write.

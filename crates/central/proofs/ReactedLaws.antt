@@ -34,7 +34,7 @@ use Rattle.central.specs.declared.state.Stage.{Stage}
 use Rattle.central.specs.declared.state.Stage.the-variants.{Block}
 
 -- an answer of admission that is done and not `Stored` is `Rejected`
-not-stored : (a : Admitted) (o : Option ℕ) → OneOf (1 ∷ 2 ∷ []) (tagOf the-type a) → admittedAs a ≡ done o → admittedAs a ≡ done none
+pub not-stored : (a : Admitted) (o : Option ℕ) → OneOf (1 ∷ 2 ∷ []) (tagOf the-type a) → admittedAs a ≡ done o → admittedAs a ≡ done none
 not-stored (Stored n) o (inl h) e = absurd (omega arith)
 not-stored (Stored n) o (inr h) e = absurd (omega arith)
 not-stored Rejected o h e = refl

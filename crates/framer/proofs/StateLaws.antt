@@ -15,6 +15,7 @@ use Rattle.line.specs.Test.{all}
 use Rattle.line.specs.declared.answer.Refusal.{Refusal}
 use Rattle.line.specs.declared.answer.Written.{Written}
 use Rattle.line.specs.declared.answer.Written.the-variants.{Refused}
+use Rattle.line.proofs.AllLaws.{zeros, all-zeros, zeros-drop}
 use Rattle.line.proofs.OutcomeLaws.{passed}
 use Rattle.line.proofs.OverlayLaws.{overlay-none, overlay-start, wrote-refused}
 use Rattle.framer.specs.Framing.{Feeding, unfinished}
@@ -26,26 +27,6 @@ use Rattle.framer.specs.declared.Framed.the-variants.{Whole, Partial}
 use Rattle.framer.proofs.HeldLaws.{held-long, held-short}
 
 -- ── Zeros ──
-
--- zeros, as many as there are
-zeros : (xs : List ℕ) → all (λ b. eqb b 0) xs ≡ true → xs ≡ replicate (length xs) 0
-unfolding all
-zeros [] h = refl
-zeros (x ∷ xs) h =
-    let (first, rest) = and-eq-true-iff (eqb x 0) (all (λ b. eqb b 0) xs) .0 h in
-    rw (eqb-true x 0 first, ← zeros xs rest)
-
--- zeros are zeros
-all-zeros : (n : ℕ) → all (λ b. eqb b 0) (replicate n 0) ≡ true
-unfolding all
-all-zeros zero = refl
-all-zeros (suc n) = all-zeros n
-
--- what is left of zeros
-zeros-drop : (n m : ℕ) → _≡_ {A = List ℕ} (drop n (replicate m 0)) (replicate (m - n) 0)
-zeros-drop zero m = let all : m - zero ≡ m = omega arith in rw all
-zeros-drop (suc n) zero = let none : zero - suc n ≡ zero = omega arith in rw none
-zeros-drop (suc n) (suc m) = let fewer : m - n ≡ suc m - suc n = omega arith in zeros-drop n m ∙ rw fewer
 
 -- the array has 256 of them, and these behind n bytes
 pub blank-length : length blank ≡ 256

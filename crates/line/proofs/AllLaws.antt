@@ -1,14 +1,15 @@
--- Laws of `all`, the test of every member of a list: as a loop makes it, over an append, at a member, from one test to a weaker one, and over a map.
+-- Laws of `all`, the test of every member of a list: as a loop makes it, over an append, at a member, from one test to a weaker one, and over a map; and zeros.
 use mathlib.Core.Bool.{Bool, true, false, _&&_, false≢true, and-assoc, and-eq-true-iff, and-false, and-true}
 use mathlib.Core.List.{List, [], _∷_, _++_, map}
 use mathlib.Core.Path.{_≡_, refl, sym, _∙_}
-use Prim.Native.Nat.{ℕ, zero, suc, _+_, _≤_, _<_}
+use Prim.Native.Nat.{ℕ, zero, suc, _+_, _-_, _≤_, _<_}
 use native.Mathlib.Nat.{not-suc-le-zero, le-of-suc-le-suc}
 use native.Mathlib.Numerals.{add-one}
 use native.Mathlib.Omega.{arith}
-use lib.ListN.{length, getD, take, drop, drop-of-length-le, take-append-drop}
+use lib.Dec.{eqb}
+use lib.ListN.{length, getD, take, drop, replicate, drop-of-length-le, take-append-drop}
 use lib.Seq.{drop-cons}
-use borrow.Author.Tests.{ltb-false, lt-leb, lt-ltb}
+use borrow.Author.Tests.{eqb-true, ltb-false, lt-leb, lt-ltb}
 use Rattle.line.specs.Test.{all}
 use Rattle.line.specs.Character.{seven, alphanumeric, byte}
 use mir.Syntax.{w8}
@@ -109,3 +110,25 @@ alphanumeric-seven c h = go (seven c) refl
     go false e =
         let far = ltb-false c 0x80 e in
         absurd (false≢true (simp (lt-leb c 0x39 (omega arith), lt-leb c 0x5A (omega arith), lt-leb c 0x7A (omega arith), and-false) at h))
+
+-- ── Zeros ──
+
+-- zeros, as many as there are
+pub zeros : (xs : List ℕ) → all (λ b. eqb b 0) xs ≡ true → xs ≡ replicate (length xs) 0
+unfolding all
+zeros [] h = refl
+zeros (x ∷ xs) h =
+    let (first, rest) = and-eq-true-iff (eqb x 0) (all (λ b. eqb b 0) xs) .0 h in
+    rw (eqb-true x 0 first, ← zeros xs rest)
+
+-- zeros are zeros
+pub all-zeros : (n : ℕ) → all (λ b. eqb b 0) (replicate n 0) ≡ true
+unfolding all
+all-zeros zero = refl
+all-zeros (suc n) = all-zeros n
+
+-- what is left of zeros
+pub zeros-drop : (n m : ℕ) → _≡_ {A = List ℕ} (drop n (replicate m 0)) (replicate (m - n) 0)
+zeros-drop zero m = let all : m - zero ≡ m = omega arith in rw all
+zeros-drop (suc n) zero = let none : zero - suc n ≡ zero = omega arith in rw none
+zeros-drop (suc n) (suc m) = let fewer : m - n ≡ suc m - suc n = omega arith in zeros-drop n m ∙ rw fewer

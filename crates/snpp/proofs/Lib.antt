@@ -1,0 +1,10 @@
+pub mod AnswerLaws
+pub mod CommandLaws
+pub mod ExportLaws
+pub mod OfferLaws
+pub mod ReactionLaws
+pub mod SendLaws
+pub mod SessionLaws
+pub mod StateLaws
+pub mod StepLaws
+pub mod ZeroLaws

@@ -1,0 +1,87 @@
+-- What a line does to the journal: nothing but SEND changes it, SEND is answered with 250 exactly where the page is admitted, and a step leaves a journal that is read again.
+use mathlib.Core.Bool.{Bool, true, false, not, false≢true}
+use mathlib.Core.List.{List, []}
+use mathlib.Core.Option.{Option, none, some}
+use mathlib.Core.Path.{_≡_, refl, sym, ap, _∙_}
+use Prim.Native.Nat.{ℕ, _≤_}
+use native.Mathlib.Omega.{arith}
+use lib.ListN.{length}
+use Rattle.line.proofs.OutcomeLaws.{map-done}
+use Rattle.line.specs.Answer.{done}
+use Rattle.line.specs.Character.{byte, printable}
+use Rattle.line.specs.Test.{if_then_else_, all}
+use Rattle.journal.proofs.StorageLaws.{put-journal, read-buffer, read-journal, stored-read}
+use Rattle.journal.specs.Encoding.{Journal}
+use Rattle.journal.specs.Storage.{Storage, transactions, sizeOf, decodeIn, storedIn}
+use Rattle.admission.proofs.ContentLaws.{admits-parts}
+use Rattle.admission.specs.Content.{isPagerId, admits}
+use Rattle.snpp.specs.Command.{Command, page, message, send, reset, quit, recognized}
+use Rattle.snpp.specs.Reaction.{Answer, success, order, badText, failed, Entry, empty, Session, ongoing, closed, Reaction, keeps, takesPager, takesMessage, sends, offers, follows, reacts, pageOf}
+use Rattle.snpp.specs.State.{sessionOf}
+use Rattle.snpp.specs.Step.{stepped}
+use Rattle.snpp.specs.declared.state.Settings.{Settings}
+use Rattle.snpp.specs.declared.state.State.{State}
+use Rattle.snpp.proofs.OfferLaws.{page-legal, pager-printable}
+use Rattle.snpp.proofs.SessionLaws.{SoundPager, a-pager, SoundMessage, a-message, Sound, on, range-sound}
+use Rattle.snpp.proofs.StateLaws.{ranged}
+use Rattle.snpp.proofs.StepLaws.{Passes, stepped-passes}
+
+-- ── The journal by the command ──
+
+module _ {J : Type 0} (most : ℕ) (pagers : List ℕ) (store : Storage J) where
+  -- PAGE and MESS leave it
+  pager-keeps : (e : Entry) (journal : J) (text : List ℕ) → takesPager most pagers store e journal text .journal ≡ journal
+  pager-keeps e journal text = go (isPagerId text)
+    where
+      go : (b : Bool) → (if b then keeps most pagers store (record { pager = some text; message = e .message }) journal success else keeps most pagers store e journal badText) .journal ≡ journal
+      go true = refl
+      go false = refl
+
+  message-keeps : (e : Entry) (journal : J) (text : List ℕ) → follows most pagers store e journal (some (message text)) .journal ≡ journal
+  message-keeps e journal text = go (all printable text) (e .message)
+    where
+      go : (b : Bool) (o : Option (List ℕ)) → (if not b then keeps most pagers store e journal badText else takesMessage most pagers store e journal text o) .journal ≡ journal
+      go true none = refl
+      go true (some earlier) = refl
+      go false o = refl
+
+  -- nothing but SEND changes it
+  pub only-send : (x : Session) (journal : J) (c : Option Command) → (c ≡ some send → ⊥) → reacts most pagers store x journal c .journal ≡ journal
+  unfolding reacts
+  only-send closed journal c other = refl
+  only-send (ongoing e) journal none other = refl
+  only-send (ongoing e) journal (some (page text)) other = pager-keeps e journal text
+  only-send (ongoing e) journal (some (message text)) other = message-keeps e journal text
+  only-send (ongoing e) journal (some send) other = absurd (other refl)
+  only-send (ongoing e) journal (some reset) other = refl
+  only-send (ongoing e) journal (some quit) other = refl
+
+  -- a page is there, the journal admits it, and the next one is the old one and this page
+  pub record Stored (e : Entry) (journal after : J) : Type 0 where
+    pub pager : List ℕ
+    pub text : List ℕ
+    pub page-entered : e .pager ≡ some pager
+    pub text-entered : e .message ≡ some text
+    pub admitted : admits most pagers store journal (pageOf pager text) ≡ true
+    pub put : after ≡ store .put journal (pageOf pager text)
+
+  -- 250 to SEND: so it was
+  pub sent-stored : (e : Entry) (journal : J) → reacts most pagers store (ongoing e) journal (some send) .answer ≡ success → Stored e journal (reacts most pagers store (ongoing e) journal (some send) .journal)
+  unfolding reacts
+  sent-stored e journal = go (e .pager) (e .message) refl refl
+    where
+      decides : (p m : List ℕ) → e .pager ≡ some p → e .message ≡ some m → (b : Bool) → admits most pagers store journal (pageOf p m) ≡ b →
+          (if b then keeps most pagers store empty (store .put journal (pageOf p m)) success else keeps most pagers store empty journal failed) .answer ≡ success →
+          Stored e journal ((if b then keeps most pagers store empty (store .put journal (pageOf p m)) success else keeps most pagers store empty journal failed) .journal)
+      decides p m f g true h a = record { pager = p; text = m; page-entered = f; text-entered = g; admitted = h; put = refl }
+      decides p m f g false h a = let z : _≡_ {A = ℕ} 0 1 = cc in absurd (omega arith)
+
+      go : (p m : Option (List ℕ)) → e .pager ≡ p → e .message ≡ m → sends most pagers store e journal p m .answer ≡ success → Stored e journal (sends most pagers store e journal p m .journal)
+      go (some p) (some m) f g a = decides p m f g (admits most pagers store journal (pageOf p m)) refl a
+      go (some p) none f g a = let z : _≡_ {A = ℕ} 0 1 = cc in absurd (omega arith)
+      go none m f g a = let z : _≡_ {A = ℕ} 0 1 = cc in absurd (omega arith)
+
+  -- and where it is so, 250
+  pub stored-sent : (e : Entry) (journal after : J) → Stored e journal after → reacts most pagers store (ongoing e) journal (some send) ≡ record { next = ongoing empty; journal = after; answer = success }
+  unfolding reacts
+  stored-sent e journal after s = rw (s .page-entered, s .text-entered, s .admitted, s .put)

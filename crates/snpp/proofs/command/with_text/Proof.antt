@@ -1,0 +1,42 @@
+-- `with_text` meets its contract: each word is the definition's, in its order.
+use mathlib.Core.Path.{sym, _∙_}
+use borrow.Author.Needs.{needs}
+use Rattle.snpp.proofs.command.with_text.Statement.{statement}
+use Rattle.snpp.proofs.command.with_text.Tie as tie
+
+slice-aggregate-is-same : tie.Need-slice-aggregate-is-same
+slice-aggregate-is-same c = search needs
+
+is-same-requires : tie.Need-is-same-requires
+is-same-requires c κs = search needs
+
+returns : tie.Need-returns
+returns c = λ text. rw (sym (c .before .is-same .ensures) ∙ c .if1 .taken)
+
+slice-aggregate-is-same-2 : tie.Need-slice-aggregate-is-same-2
+slice-aggregate-is-same-2 c = search needs
+
+is-same-requires-2 : tie.Need-is-same-requires-2
+is-same-requires-2 c κs = search needs
+
+returns-2 : tie.Need-returns-2
+returns-2 c =
+    let first = c .before .before .before in
+    λ text. rw (sym (first .before .is-same .ensures) ∙ first .if1 .left, sym (c .before .is-same2 .ensures) ∙ c .if2 .taken)
+
+returns-3 : tie.Need-returns-3
+returns-3 c =
+    let first = c .before .before .before in
+    λ text. rw (sym (first .before .is-same .ensures) ∙ first .if1 .left, sym (c .before .is-same2 .ensures) ∙ c .if2 .left)
+
+pub with-text-spec : {M : Type 1} → statement M
+with-text-spec =
+    tie.close
+    (tie.spec
+    slice-aggregate-is-same
+    is-same-requires
+    returns
+    slice-aggregate-is-same-2
+    is-same-requires-2
+    returns-2
+    returns-3)

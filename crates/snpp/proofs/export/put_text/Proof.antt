@@ -1,0 +1,31 @@
+-- `put_text` meets its contract: the output has room behind what is there, so the text is copied there.
+use Rattle.snpp.proofs.ExportLaws.{copied-adds}
+use borrow.Author.Needs.{needs}
+use Rattle.snpp.proofs.export.put_text.Statement.{statement}
+use Rattle.snpp.proofs.export.put_text.Tie as tie
+
+sub-copy : tie.Need-sub-copy
+sub-copy c = search needs
+
+part-copy-start : tie.Need-part-copy-start
+part-copy-start c = search needs
+
+part-copy-end : tie.Need-part-copy-end
+part-copy-end c = search needs
+
+copy-requires : tie.Need-copy-requires
+copy-requires c κs = search needs
+
+add-result : tie.Need-add-result
+add-result c = search needs
+
+same-length : tie.Need-same-length
+same-length c = search needs
+
+returns : tie.Need-returns
+returns c =
+    let s = c .before .before .before .before .before .before in
+    copied-adds (s .args .at) (s .args .text .now) (s .args .out .now) _ (s .pre) (c .before .before .copy .ensures)
+
+pub put-text-spec : {M : Type 1} → statement M
+put-text-spec = tie.close (tie.spec sub-copy part-copy-start part-copy-end copy-requires add-result same-length returns)

@@ -1,0 +1,83 @@
+-- What a driver does that takes lines in one after the other, and what comes of it.
+use mathlib.Core.Bool.{Bool, true, not, _&&_}
+use mathlib.Core.List.{List, [], _∷_, _++_, map}
+use mathlib.Core.Path.{_≡_}
+use Prim.Native.Nat.{ℕ, _≤_}
+use lib.Dec.{eqb, leb}
+use lib.ListN.{length, take}
+use Rattle.line.specs.Answer.{done}
+use Rattle.line.specs.Character.{CR, byte}
+use Rattle.line.specs.Test.{all}
+use Rattle.journal.specs.Encoding.{encode}
+use Rattle.journal.specs.Storage.{sizeOf, isBuffer, storedIn}
+use Rattle.admission.specs.Content.{numberFrom, firstField, listed}
+use Rattle.central.specs.Step.{pagersInRange}
+use Rattle.snpp.specs.Export.{lineEnd, secondField, transactionsOf, writtenOut}
+use Rattle.snpp.specs.Reaction.{Answer, Reaction, success}
+use Rattle.snpp.specs.State.{saved}
+use Rattle.snpp.specs.Step.{stepped, startState}
+use Rattle.snpp.specs.declared.state.Settings.{Settings}
+use Rattle.snpp.specs.declared.state.State.{State}
+
+-- a text as lines, their endings off: each has CR LF behind it, and no CR within (R-15.11)
+pub data Lines : List ℕ → List (List ℕ) → Type 0 where
+  none : Lines [] []
+  next : {line text : List ℕ} {lines : List (List ℕ)} → all (λ c. not (eqb c CR)) line ≡ true → Lines text lines → Lines (line ++ lineEnd ++ text) (line ∷ lines)
+
+-- what a driver keeps: the state, and the journal of so many bytes at the start of its buffer
+pub record Gateway : Type 0 where
+  pub state : State
+  pub buffer : List ℕ
+  pub length : ℕ
+
+-- what it keeps behind a step that is done, as `Steps` has it
+abbrev pub after : Gateway → Reaction (List (List ℕ)) → Gateway
+after g x = record { state = saved (x .next); buffer = storedIn (done (x .journal)) (g .buffer); length = sizeOf (x .journal) }
+
+-- lines taken in one after the other, each step done: the answers, and what is kept behind them (R-15.11)
+pub data Takes (settings : Settings) (pagers : List ℕ) (room : ℕ) : Gateway → List (List ℕ) → List Answer → Gateway → Type 0 where
+  over : {g : Gateway} → Takes settings pagers room g [] [] g
+  line : {g g′ : Gateway} {l : List ℕ} {ls : List (List ℕ)} {answers : List Answer} {x : Reaction (List (List ℕ))} →
+      stepped (g .state) settings pagers (g .buffer) (g .length) l room ≡ done x → Takes settings pagers room (after g x) ls answers g′ →
+      Takes settings pagers room g (l ∷ ls) (x .answer ∷ answers) g′
+
+-- a state to which the start leads: the start itself, and what a step leaves (R-15.8)
+pub data Reached : State → Type 0 where
+  begun : Reached startState
+  onward : {s : State} {x : Reaction (List (List ℕ))} → Reached s → (settings : Settings) (pagers buffer : List ℕ) (n : ℕ) (line : List ℕ) (room : ℕ) →
+      stepped s settings pagers buffer n line room ≡ done x → Reached (saved (x .next))
+
+-- ── The round trip ──
+
+-- every pager that the records name is listed
+unfoldable pub allListed : List ℕ → List (List ℕ) → Bool
+allListed pagers [] = true
+allListed pagers (t ∷ ts) = listed (numberFrom 0 (firstField t)) pagers && allListed pagers ts
+
+-- no message is empty
+unfoldable pub noneEmpty : List (List ℕ) → Bool
+noneEmpty [] = true
+noneEmpty (t ∷ ts) = leb 1 (length (secondField t)) && noneEmpty ts
+
+-- a gateway between two pages: nothing has been entered, and its buffer holds this journal
+pub record Holding (ts : List (List ℕ)) (g : Gateway) : Type 0 where
+  pub state : g .state ≡ startState
+  pub buffer : isBuffer (g .buffer) ≡ true
+  pub count : g .length ≡ sizeOf ts
+  pub journal : take (g .length) (g .buffer) ≡ encode ts
+
+-- a text taken in by a gateway, every line answered with 250, until its buffer holds the bytes of this journal
+pub record TakenIn (settings : Settings) (pagers : List ℕ) (room : ℕ) (g : Gateway) (text journal : List ℕ) : Type 0 where
+  pub lines : List (List ℕ)
+  pub cut : Lines text lines
+  pub behind : Gateway
+  pub taken : Takes settings pagers room g lines (map (λ _. success) lines) behind
+  pub same : take (behind .length) (behind .buffer) ≡ journal
+
+-- a journal that is written out and taken in again, into an empty one, with every pager listed and L at 2,000: it is the same,
+-- if no message is empty (R-15.11)
+abbrev pub RoundTrip : Type 0
+RoundTrip =
+    (journal text pagers : List ℕ) (settings : Settings) (g : Gateway) (whole room : ℕ) → all byte journal ≡ true →
+    writtenOut journal whole ≡ done text → noneEmpty (transactionsOf journal) ≡ true → allListed pagers (transactionsOf journal) ≡ true →
+    pagersInRange pagers ≡ true → settings .longest ≡ 2000 → Holding [] g → 6 ≤ room → TakenIn settings pagers room g text journal
