@@ -6,12 +6,21 @@ numbers that the paper prints, which are asserted below, as demand 3 is of every
 the walk of a journal, single steps from saved states, two decisions that the model followed (hanging up tests no pager list; the index of a block of whole fields is
 tested last), and of document 02 the framer, the cutting into whole fields and the late no, which are all written twice here, and sums that are added to. Of those it is a
 second writing and no second opinion. A ninth is younger and a second opinion again: the places of what the central wrote, written twice here from document 01, from
-wish 5 of document 02 and from a brief that said how the wish is taken, by one who had not read the Rattle files that find them. The program `vectors` makes the calls on
-the proved functions; the gate compares.
+wish 5 of document 02 and from a brief that said how the wish is taken, by one who had not read the Rattle files that find them. A tenth is so too: the SNPP gateway, from
+document 01, from wish 6 of document 02 and from a brief, by one who had read only the signatures of its Rattle files; what it holds is found twice here, and what it sends on is
+held to the central's steps. The program `vectors` makes the calls on the proved functions; the gate compares.
 
 A line of stdin is a call: a letter, then arguments with a space before each. Bytes are hex pairs; `*` and four hex digits behind a pair repeat it;
 no bytes are `-`. A number is bytes too, high first. A capital letter makes the call of the small one, and cuts into whole fields; a letter with bit 7 set, written
 as a hex pair, makes the call of the one without it, with a device that confirms late.
+
+`z` is shared by what came when no other letter was left: its first argument, a letter, names the call. Those of the SNPP gateway have six more in common: the longest
+transaction L, the journal's length, the pager list (four bytes a number), the bytes at the start of the journal's buffer, the size of that buffer, and the size of the output, which
+A5 fills; what a call has no use for is `-`. `z s` then has the lines of a session from the start; `z t` has a state (its stage `o`, `e` or `c`, pager, digits, message, length) and the
+lines of a session from there. Both print what each line gets, and how all stands behind the last: the journal's length, its buffer and the output, the stage (0, 1 or 2), the digits,
+all of the pager, the length, all of the message; bytes by their digests. `z g` has nothing more and is the greeting, `z w` has a journal and writes it out: both print what was put
+out and all of the output, by their digests. `z r` has a journal too, writes it out and prints the same, and takes the lines in again from the start: whether the journal is the same
+(1 or 0), its length and its buffer.
 """
 import functools, itertools, os, random, re, typing
 
@@ -1868,6 +1877,384 @@ def reports(rng):
         x(*texts, step=rng.choice(steps[:4]), retries=rng.randint(0, 2), job=encode(PAGES[:rng.randint(1, 4)]), whole=rng.random() < 0.3, late=rng.random() < 0.3)
 
 
+# ── the SNPP gateway ──
+class Gateway:
+    """The gateway's steps over lines, from its start; no message is None (document 02, wish 6, and RFC 1861 for the numbers)."""
+
+    def __init__(self, longest, pagers):
+        self.longest, self.pagers, self.closed = longest, pagers, False
+        self.forget()
+
+    def forget(self):
+        self.pager, self.message = b"", None
+
+    def answer(self, line, stored):
+        """The number that a line gets, None behind QUIT; what SEND appends goes behind what is stored."""
+        command, text = line.upper(), line[5:]
+        if self.closed:
+            return None
+        if command.startswith(b"PAGE "):
+            return self.page(text)
+        if command.startswith(b"MESS "):
+            return self.mess(text)
+        if command == b"SEND":
+            return self.send(stored)
+        if command == b"RESE":
+            self.forget()
+            return 250
+        if command == b"QUIT":
+            self.forget()
+            self.closed = True
+            return 221
+        return 500
+
+    def page(self, text):
+        if not 1 <= len(text) <= 8 or any(x not in b"0123456789" for x in text):
+            return 550
+        self.pager = text
+        return 250
+
+    def mess(self, text):
+        if any(not 0x20 <= x <= 0x7E for x in text):
+            return 550
+        if self.message is not None:
+            return 503
+        self.message = text
+        return 250
+
+    def send(self, stored):
+        if not self.pager or self.message is None:
+            return 503
+        page, listed = self.pager + b"\r" + self.message + b"\r", int(self.pager) in self.pagers
+        self.forget()
+        if len(page) > self.longest or not listed or len(stored) + 1 > 64 or sum(len(t) + 2 for t in stored + [page]) > 32000:
+            return 554
+        stored.append(page)
+        return 250
+
+
+@functools.cache
+def held(lines):
+    """What the gateway holds behind lines, found in the lines alone: the latest PAGE and the first MESS that are right, since a RESE, a QUIT or a SEND that had both."""
+    begin = len(lines)
+    while begin and not (re.fullmatch(rb"(?i)rese|quit", lines[begin - 1]) or lines[begin - 1].upper() == b"SEND" and None not in held(lines[:begin - 1])):
+        begin -= 1
+    pages, messages = ([x[5:] for x in lines[begin:] if re.fullmatch(rb"(?i)%s %s" % form, x)] for form in ((b"page", rb"[0-9]{1,8}"), (b"mess", rb"[ -~]*")))
+    return pages[-1] if pages else None, messages[0] if messages else None
+
+
+def central_takes(longest, pagers, stored, page):
+    """What the central has stored once it has heard the blocks of a page."""
+    c = Central(b"", longest, 0, pagers, encode(stored))
+    c.stage = "block"
+    for x in cut(page):
+        c.step(bytes(map(with_parity, block(*x))))
+    return decode(c.journal)
+
+
+STAGES = ("open", "entered", "closed")
+START = ("open", bytes(8), 0, bytes(2043), 0)
+
+
+def gateway_in_range(stage, pager, digits, message, n):
+    """The start can lead to the state."""
+    if digits > 8 or n > 2043 or any(pager[digits:]) or any(message[n:]):
+        return False
+    if any(x not in b"0123456789" for x in pager[:digits]) or any(not 0x20 <= x <= 0x7E for x in message[:n]):
+        return False
+    return n == 0 if stage == "open" else stage == "entered" or digits == n == 0
+
+
+def gateway_tested(longest, pagers, state, buffer, length, room, line):
+    """The transactions in the journal, where nothing is refused."""
+    if not 3 <= longest <= 2000 or len(pagers) > 1000 or any(x >= 10 ** 8 for x in pagers) or not gateway_in_range(*state):
+        raise Refused(9)
+    if room < 6 or len(buffer) != 32004:
+        raise Refused(1)
+    if length > len(buffer):
+        raise Refused(7)
+    stored = decode(buffer[:length])
+    if len(line) > 2048:
+        raise Refused(2)
+    return stored
+
+
+def gateway_step(longest, pagers, state, stored, line):
+    """The answer to a line, and the state and the transactions behind it; what the models of the central and of whole sessions say to that is the same."""
+    g, before = Gateway(longest, pagers), list(stored)
+    g.closed, g.pager, g.message = state[0] == "closed", state[1][:state[2]], state[3][:state[4]] if state[0] == "entered" else None
+    pager, message = g.pager, g.message
+    n = g.answer(line, stored)
+    if line.upper() == b"SEND" and n in (250, 554):
+        assert stored == central_takes(longest, pagers, before, pager + b"\r" + message + b"\r") and (len(stored) > len(before)) == (n == 250)
+    else:
+        assert stored == before and n in (None, 221, 250, 500, 503, 550)
+    text, stage = g.message or b"", "closed" if g.closed else "open" if g.message is None else "entered"
+    after = stage, g.pager.ljust(8, b"\0"), len(g.pager), text.ljust(2043, b"\0"), len(text)
+    assert gateway_in_range(*after) and (n in (221, 250, 554) or after == state)
+    return b"" if n is None else b"%d \r\n" % n, after
+
+
+def heard(longest, length, pagers, begin, size, room, state, lines):
+    """What the gateway answers to lines, and how journal, buffers and state stand behind the last."""
+    buffer, out, said, known = begin[:size].ljust(size, b"\0"), FILLER * room, [], state == START and ()
+    for line in lines:
+        try:
+            stored = gateway_tested(longest, pagers, state, buffer, length, room, line)
+        except Refused as r:
+            said.append("refused %s" % r)
+            continue
+        reply, state = gateway_step(longest, pagers, state, stored, line)
+        if known is not False and state[0] != "closed":
+            known += (line,)
+            assert held(known) == (state[1][:state[2]] or None, state[3][:state[4]] if state[0] == "entered" else None)
+        said.append(wrote(reply))
+        book = encode(stored)
+        buffer, length, out = laid(book, buffer), len(book), laid(reply, out)
+    return said, buffer, length, out, state
+
+
+def session(*args):
+    said, buffer, length, out, (stage, pager, digits, message, n) = heard(*args)
+    return ", ".join(said + ["%d %s %s %d %d %s %d %s" % (length, digest(buffer), digest(out), STAGES.index(stage), digits, digest(pager), n, digest(message))])
+
+
+def setup(longest, length, pagers, begin, size, room):
+    """The arguments that every call on the gateway has behind its name."""
+    assert len(pagers) <= 1001  # what the program has room for
+    return [number(longest), number(length), hexed(b"".join(x.to_bytes(4, "big") for x in pagers)), hexed(begin), number(size), number(room)]
+
+
+def zs(*lines, longest=2000, pagers=(123, 7), begin=encode([]), length=None, size=32004, room=6):
+    """A session from the start; length is the journal's, size its buffer's, room the output's."""
+    length = len(begin) if length is None else length
+    assert len(lines) <= 23  # what the program has room for
+    call("z", "s", *setup(longest, length, pagers, begin, size, room), *map(hexed, lines), answer=lambda: session(longest, length, pagers, begin, size, room, START, lines))
+
+
+def zt(*lines, stage="open", pager=b"", digits=None, message=b"", n=None, longest=2000, pagers=(123, 7), begin=encode([]), length=None, size=32004, room=6):
+    """Steps from a saved state, of so many digits and a message of n characters."""
+    length, digits, n = len(begin) if length is None else length, len(pager) if digits is None else digits, len(message) if n is None else n
+    assert len(pager) <= 8 and len(message) <= 2043 and len(lines) <= 18  # what the program has room for
+    call("z", "t", *setup(longest, length, pagers, begin, size, room), stage[0], hexed(pager), number(digits), hexed(message), number(n), *map(hexed, lines),
+         answer=lambda: session(longest, length, pagers, begin, size, room, (stage, pager.ljust(8, b"\0"), digits, message.ljust(2043, b"\0"), n), lines))
+
+
+def zg(room):
+    """The greeting."""
+    def a():
+        if room < 6:
+            return "refused 1 %s" % digest(FILLER * room)
+        return "%s %s" % (digest(b"220 \r\n"), digest(laid(b"220 \r\n", FILLER * room)))
+    call("z", "g", "-", "-", "-", "-", "-", number(room), answer=a)
+
+
+def written_out(book, room):
+    """The records of a journal as lines, oldest first."""
+    if room < 33024:
+        raise Refused(1)
+    pages = [re.fullmatch(rb"([0-9]{1,8})\r([ -~]*)\r", t) for t in decode(book)]
+    if None in pages:
+        raise Refused(6)
+    return b"".join(b"PAGE %s\r\nMESS %s\r\nSEND\r\n" % x.groups() for x in pages)
+
+
+def put_out(book, room):
+    """The same and all of the output, by their digests; and the lines, none where it is refused."""
+    try:
+        lines = written_out(book, room)
+        return "%s %s" % (digest(lines), digest(laid(lines, FILLER * room))), lines
+    except Refused as r:
+        return "refused %s %s" % (r, digest(FILLER * room)), b""
+
+
+def zw(book, room=33024):
+    """A journal written out."""
+    call("z", "w", "-", "-", "-", "-", "-", number(room), hexed(book), answer=lambda: put_out(book, room)[0])
+
+
+def zr(book, pagers=None, longest=2000, begin=encode([]), size=32004, room=33024):
+    """A journal written out and taken in again, with every pager of it listed if none are given."""
+    if pagers is None:
+        pagers = sorted({int(x) for x in re.findall(rb"(?s)([0-9]{1,8})\r[ -~]*\r..", book)})
+
+    def a():
+        said, lines = put_out(book, room)
+        answers, buffer, length, _, _ = heard(longest, len(begin), pagers, begin, size, 6, START, lines.split(b"\r\n")[:-1])
+        if lines and begin == encode([]) and set(answers) == {wrote(b"250 \r\n")}:
+            assert buffer[:length] == book
+        return "%s %d %d %s" % (said, buffer[:length] == book, length, digest(buffer))
+    call("z", "r", *setup(longest, len(begin), pagers, begin, size, room), hexed(book), answer=a)
+
+
+P, M, S, R, Q = b"PAGE 123", b"MESS ABC", b"SEND", b"RESE", b"QUIT"
+OVERLONG = b"A" * 2049
+GOOD = [b"7\r\r", b"123\rABC\r", b"00000123\r ~\r"]
+
+
+def spare(left):
+    """A journal with room for so many bytes more."""
+    return encode([b"A" * 1997 + b"\r"] * 15 + [b"B" * (1997 - left) + b"\r"])
+
+
+def sessions():
+    some = (P, M, S, R, Q, b"", b"PAGE x", b"MESS \x7f", b"HELP")
+    # a page; each line in each place of it, and behind a failure; behind QUIT
+    zs(), zs(P, M, S, Q), zs(M, P, S, S), zs(P, M, S, P, M, S, room=7), zs(P, M, Q, *some), zs(Q, P), zt(*some, stage="closed", room=9)
+    for x in some:
+        zs(x, P, x, S), zs(P, M, x, S), zs(M, x, P, S, M), zs(b"PAGE 9", M, S, x, M, S, P, S)
+    # capitals and small letters, and both
+    for mask in range(16):
+        def cased(line, turn=0):
+            return bytes(x | 0x20 if i < 4 and mask >> (i + turn) % 4 & 1 else x for i, x in enumerate(line))
+        zs(cased(P), cased(b"MESS aBcD eF", 1), cased(S, 2), cased(P), cased(M, 3), cased(R), cased(S), cased(M, 2), cased(P, 3), cased(Q), cased(S, 3), cased(R, 1))
+    # a letter or the space changed in a bit or more
+    for x in (P, M, S, R, Q):
+        zs(P, M, *[x[:i] + bytes([x[i] ^ bits]) + x[i + 1:] for bits, i in itertools.product((0x01, 0x40, 0x60, 0x80), range(5)) if i < len(x)], S)
+    # nothing but the commands
+    wrong = (b"PAGE", b"PAGE123", b"PAGES 123", b"PAG 123", b"PAGE\t123", b"PAGE\0123", b"PAGE-123", b" PAGE 123", b"PAGE\r 123", b"page", b"MESS", b"MESSABC", b"MESSAGE ABC", b"mess", b"MES ABC", b"MESS\tABC",
+             b" MESS A", b"SEND ", b"SEND X", b"SENDX", b"SEN", b"SE ND", b" SEND", b"SEND\r", b"SEND\r\n", b"SEND\0", b"send now", b"RESE ", b"RESET", b"RES", b"RESE 1", b"RESE\n", b"QUIT ", b"QUITS", b"QUI",
+             b"QUIT 1", b"QUIT\r", b" ", b"LOGI ABC", b"2WAY", b"SITE X", b"\x80", b"\xff" * 4, b"\0", b"P", b"123", b"PAGEPAGE 1", b"SENDSEND", b"RESEQUIT")
+    for n in range(0, len(wrong), 9):
+        zs(P, M, *wrong[n:n + 9], S), zs(*wrong[n:n + 9], M, *wrong[n:n + 9], room=9)
+    # pager IDs
+    for text in (b"", b"0", b"7", b"07", b"0000007", b"00000007", b"000000007", b"99999999", b"00000000", b"000000000", b"123456789", b"1234567890", b" ", b" 7", b"7 ", b"7 7", b"+7", b"-7", b"0x7", b"1a", b"A", b"/", b":",
+                 b"7/", b"7:", b"\xb7", b"7\xb7", b"7\0", b"\0", b"7\r", b"7\n", b"1234567a", b"1234567\x80", b"12345678 ", b" 12345678"):
+        zs(b"PAGE " + text, M, S, b"PAGE 12345678", b"PAGE " + text, pagers=(7, 0, 99999999))
+    for x, y in ((b"123", b"7"), (b"7", b"123"), (b"00000123", b"0123"), (b"0", b"99999999"), (b"8", b"123"), (b"123", b"8")):
+        zs(b"PAGE " + x, b"PAGE 1 2", b"page " + y, b"PAGE "), zs(b"PAGE " + x, M, b"page " + y, S, S)
+    # pager lists
+    for pagers in ((), (0,), (123,), (124, 122), (99999999, 123), (123,) * 3, (0,) * 999 + (123,), (123,) + (5,) * 999, (0,) * 1001, (123,) * 1001, (10 ** 8,), (123, 10 ** 8), (123, 2 ** 32 - 1), (99999877,)):
+        zs(P, M, S, b"PAGE 0", b"MESS ", S, S, b"PAGE 00000123", M, S, Q, S, pagers=pagers)
+    # messages
+    for x in (0, 0x0A, 0x0D, 0x1F, 0x20, 0x7E, 0x7F, 0x80, 0xA0, 0xC1, 0xFF):
+        texts = [b"MESS " + text % x for text in (b"%c", b"%cA", b"A%c", b"A%cB")]
+        zs(*[line for text in texts for line in (P, text, S)], M, *texts)
+    for text in (b"", b" ", b"  ", b"A", b" A ", b"PAGE 7", b"SEND", b"~" * 80, bytes(range(0x20, 0x7F))):
+        text = b"MESS " + text
+        zs(P, text, text, S, M, R, text), zs(b"PAGE 8", text, S, S, P, S, text, M, S, M)
+
+
+def session_limits():
+    # the longest lines, and longer ones; the same behind QUIT
+    for n in (2047, 2048, 2049, 4096):
+        text, digits, rest = b"MESS ".ljust(n, b"A"), b"PAGE ".ljust(n, b"1"), (b"A" * n, b"\x80" * n, S.ljust(n))
+        zs(text), zs(P, text, S, S, M), zs(P, text, b"MESS B", R, M, S), zs(P, M, digits, *rest, S), zs(Q, text, *rest), zt(rest[1], stage="closed")
+    zs(P, b"MESS " + b"A" * 40000, M, S), zs(P, M, b"\xff" * 40000, Q)
+    # the longest transaction
+    for longest, pager, more in itertools.product((3, 4, 12, 2000), (b"7", b"00000007"), (-1, 0, 1, 2)):
+        n = longest - len(pager) - 2 + more
+        if n >= 0:
+            zs(b"PAGE " + pager, b"MESS " + b"C" * n, S, S, longest=longest)
+    for longest in (0, 1, 2, 3, 2000, 2001, 65535):
+        zs(b"PAGE 7", b"MESS ", S, b"", Q, S, OVERLONG, longest=longest)
+    # room in the journal, of records and of bytes; bytes behind it
+    for begin in (encode([]), encode([b"7\r\r"] * 62), encode([b"7\r\r"] * 63), encode([b"7\r\r"] * 64), encode([b"A\rB\rC\r", b"123\rABC\r"])):
+        zs(P, M, S, P, b"MESS ", S, S, begin=begin), zs(P, b"MESS ", S, P, S, begin=begin + b"\xff" * 12, length=len(begin))
+    for left in (0, 1, 6, 7, 8, 9, 10, 11, 17, 18):
+        zs(P, b"MESS ABCD", S, P, M, S, P, b"MESS ", S, begin=spare(left))
+    for n in (28, 29, 30):
+        zs(P, b"MESS ".ljust(n, b"D"), S, begin=spare(31))
+    for n in (1993, 1994):
+        zs(P, b"MESS " + b"E" * n, S, P, b"MESS ", S, begin=encode([b"A" * 1997 + b"\r"] * 15))
+    # the output, the buffer, and the journal's length and form
+    for room in (0, 5, 6, 7, 256):
+        zs(P, b"?", M, S, Q, S, room=room), zs(P, room=room), zt(Q, stage="closed", room=room)
+    good = encode(GOOD)
+    for size in (0, 4, len(good), 32003, 32005, 65535):
+        zs(P, M, S, Q, begin=good, size=size), zt(P, stage="closed", begin=good, size=size)
+    for begin in (good[:-1], good + b"\0", good[1:], b"", b"\0" * 3, b"\0" * 5, b"\xff" * 9, encode([b"7\r\r"] * 65), encode([b"A"]), encode([b"A\n\r"]), encode([b"\x80\r"]), encode([b""]), encode([b"A" * 2000 + b"\r"]),
+                  encode([b"A" * 1997 + b"\r"] * 16 + [b"\r"])):
+        zs(P, b"", M, S, Q, begin=begin), zt(S, b"", stage="entered", pager=b"7", message=b"A", begin=begin)
+    zt(b"", R, stage="closed", begin=good), zt(b"", R, stage="closed", begin=good[1:]), zt(b"", R, stage="closed", begin=b""), zt(b"", OVERLONG, stage="closed", begin=good[:-1])
+    for length in (0, 3, 4, 5, len(good) - 1, len(good), len(good) + 1, 32003, 32004, 32005, 65535):
+        zs(P, M, S, begin=good, length=length)
+    # several wrongs at once
+    for longest, stage, room, begin, line in itertools.product((2, 3), ("closed", "open"), (5, 6), (good, good[1:]), (b"A" * 2048, OVERLONG)):
+        zt(line, longest=longest, stage=stage, pager=b"7", room=room, begin=begin)
+    for pagers, size, length, line in itertools.product(((7,), (10 ** 8,)), (32004, 32003), (len(good), 32005), (R, OVERLONG)):
+        zt(line, pagers=pagers, size=size, length=length, begin=good)
+
+
+def gateway_states():
+    long, lines = b"M" * 2043, (b"PAGE 45", b"MESS new", b"MESS \x80", S, R, Q, b"A" * 2048, OVERLONG)
+    for state in ({}, {"pager": b"123"}, {"pager": b"00000007"}, {"stage": "entered"}, {"stage": "entered", "message": b"old"}, {"stage": "entered", "pager": b"7"},
+                  {"stage": "entered", "pager": b"00000123", "message": b" ~"}, {"stage": "entered", "pager": b"7", "message": long}, {"stage": "closed"}):
+        for line in lines:
+            zt(line, **state)
+        zt(b"PAGE 9", b"MESS x", S, b"PAGE 7", b"MESS y", S, b"MESS z", **state, room=9)
+    # out of range: digits, and what stands behind them
+    wrong = [(b"1" * 8, n) for n in (9, 10, 255, 256, 65535)] + [(b"", n) for n in (1, 8, 9, 65535)] + [(b"1", 0), (b"12", 1), (b"12345678", 7), (b"1\0\0\0\0\0\0\x01", 1), (b"\0\0\0\0\0\0\0\xff", 0), (b"1\0\x000", 1), (b"1\0", 2)]
+    wrong += [(x, len(x)) for x in (b"/", b":", b"A", b"\x80", b"\xb1", b" ", b"1/", b"1:", b"1234567A", b"A2345678", b"1\x002", b"12 4")]
+    for pager, digits in wrong:
+        zt(P, b"", S, Q, pager=pager, digits=digits)
+    for pager, digits in wrong[::3]:
+        zt(S, R, pager=pager, digits=digits, stage="entered", message=b"old")
+    zt(P, Q, pager=b"1", digits=0, stage="closed"), zt(P, Q, digits=9, stage="closed")
+    # the message, and what stands behind it
+    wrong = [(b"A", 0), (b"AB", 1), (b"A" + bytes(2041) + b"B", 1), (bytes(2042) + b"\x01", 0), (long, 0), (long, 2042), (b"A\0 ", 1), (long, 2044), (long, 65535), (b"", 1), (b"", 2043), (b"", 2044),
+             (b"A\0", 2)]
+    wrong += [(x, len(x)) for x in (b"\x1f", b"\x7f", b"\x80", b"\r", b"A\x1f", b"A\x7f", b"A\xc1", b"A\0B", b"\xffA", b"A\rB", long[:2042] + b"\x7f", b"\0" + long[1:])]
+    for message, n in wrong:
+        zt(S, M, b"", Q, pager=b"7", message=message, n=n, stage="entered")
+    for (message, n), stage in itertools.product(wrong[:5], ("open", "closed")):
+        zt(M, b"", message=message, n=n, stage=stage)
+    # stages that hold what they cannot
+    for state in ({"message": b"A"}, {"message": b" ", "pager": b"7"}, {"message": long}, {"stage": "closed", "message": b"A"}, {"stage": "closed", "pager": b"1"},
+                  {"stage": "closed", "pager": b"12345678", "message": long}, {"stage": "closed", "pager": b"0"}):
+        zt(P, b"", S, Q, **state), zt(R, OVERLONG, **state, room=5)
+
+
+def exports():
+    for room in (0, 1, 5, 6, 7, 256, 65535):
+        zg(room)
+    long, good = b"12345678\r" + b"A" * 1990 + b"\r", encode(GOOD)
+    for pages in ([], GOOD[:1], GOOD[1:2], GOOD, GOOD[::-1], [b"7\r\r"] * 64, [b"0\rPAGE 7\r", b"1\rSEND\r"], [long], [long] * 15 + [b"99999999\r" + b"z" * 1958 + b"\r"], [b"%d\r%s\r" % (n * n, b"x" * n) for n in range(64)],
+                  [b"9\r" + b"B" * 495 + b"\r"] * 64, [b"1\r \r", b"1\r\r", b"01\r\r"]):
+        zw(encode(pages)), zr(encode(pages))
+    # records that are no pages, wherever they stand
+    bad = (b"\r", b"7\r", b"7\rA\rB\r", b"\r\r", b"\rA\r", b"A\rA\r", b"1A\rA\r", b" 7\rA\r", b"7 \rA\r", b"123456789\rA\r", b"000000007\r\r", b"/\rA\r", b":\rA\r", b"7\r\r\r", b"-7\rA\r",
+           b"A" * 1999 + b"\r", b"1" * 1998 + b"\r\r")
+    for i, t in enumerate(bad):
+        zw(encode([t])), zw(encode(GOOD[:i % 4] + [t] + GOOD[i % 4:]))
+    zw(encode([b"7\r\r"] * 63 + [b"7\r"])), zw(encode([b"7\r"] + [b"7\r\r"] * 63)), zr(encode([b"7\r"] + GOOD)), zr(encode(GOOD + [b"7\r\r\r"]))
+    # outputs and journals, several wrongs at once
+    for book in (good, encode(bad[:3]), good[1:], good[:-1], good + b"\0", b"", b"\0" * 3, b"\0" * 5, encode([b"7\r\r"] * 65), encode([b"7\x7f\r"] + GOOD), encode([b"7\r\x80\r"]), encode([b"7"]), encode(bad[:3])[1:]):
+        zw(book, 33023), zw(book, 33025)
+    zw(good, 0), zw(good, 65535), zw(encode([]), 0), zr(good[1:]), zr(b"")
+    # taken in again elsewhere: not every pager listed, a shorter L, a journal that is not empty, wrong settings
+    zr(good, (123,)), zr(good, ()), zr(good, longest=3), zr(good, longest=11), zr(good, longest=2), zr(good, longest=2001), zr(good, (10 ** 8,)), zr(good, size=32003), zr(good, room=33023), zr(good, room=65535)
+    for begin in (encode([b"7\r\r"]), encode([b"7\r\r"] * 62), encode([b"7\r\r"] * 64), spare(25), b"\0" * 3):
+        zr(good, begin=begin)
+    zr(encode([]), begin=good)
+
+
+def some_line(rng):
+    """A line: mostly a command that is right."""
+    line = rng.choices((b"PAGE " + rng.choice((b"123", b"123", b"7", b"0123", b"00000007", b"99999999", b"5")), b"MESS " + rng.choice((b"", b"A", b"ABC", b"hello you", b" ~ ")), S, R, Q,
+                        b"PAGE " + rng.choice((b"", b"1a", b"123456789", b" 7", b"\xb7")), b"MESS " + rng.choice((b"\x1f", b"A\x7f", b"\x80", b"A\rB")),
+                        rng.choice((b"", b"SEND ", b"PAGE", b"MESS", b"HELP", b"RESE X", b"\xd3END"))), (30, 30, 32, 4, 1, 6, 6, 6))[0]
+    return line if rng.random() < 0.5 else bytes(x ^ 0x20 if i < 4 and 0x40 < x < 0x80 and rng.random() < 0.5 else x for i, x in enumerate(line))
+
+
+def gateway(rng):
+    # the words of the wish, and document 01's journal of 123, ABC
+    zs(P, M, S)
+    assert answers[-1].startswith("6 323530200d0a, 6 323530200d0a, 6 323530200d0a, 14 %s " % digest(encode([b"123\rABC\r"]).ljust(32004, b"\0")))
+    assert written_out(encode([b"7\r\r", b"123\rABC\r"]), 33024) == b"PAGE 7\r\nMESS \r\nSEND\r\nPAGE 123\r\nMESS ABC\r\nSEND\r\n"
+    assert len(written_out(encode([b"9\r" + b"B" * 495 + b"\r"] * 64), 33024)) == 33024
+    sessions()
+    session_limits()
+    gateway_states()
+    exports()
+    # all kinds
+    some = [encode([]), encode([b"7\r\r"]), encode([b"7\r\r"] * 62), encode([b"7\r\r"] * 63), encode([b"7\r\r"] * 64), spare(9), spare(25)]
+    for n in range(120):
+        zs(*[some_line(rng) for _ in range(rng.randint(3, 16))], longest=rng.choice((2000, 2000, 9, 3)), pagers=(123, 7, 99999999), begin=rng.choice(some[:2] if n % 3 else some), room=rng.choice((6, 6, 8)))
+    for _ in range(20):
+        zr(encode([b"%0*d\r%s\r" % (rng.randint(1, 8), rng.randrange(10 ** rng.randint(1, 8)), bytes(rng.choices(b" A~s9", k=rng.choice((0, 1, 3, 9))))) for _ in range(rng.choice((1, 2, 3, 5, 9)))]))
+
+
 def main():
     rng = random.Random(1861)
     codec(rng)
@@ -1891,6 +2278,7 @@ def main():
     late_devices()
     remarks(random.Random(5))
     reports(random.Random(5))
+    gateway(random.Random(6))
     crates = os.path.join(os.path.dirname(os.path.abspath(__file__)), "..", "crates")
     vectors = ["\n".join(rows + [""]).encode() for rows in (calls, answers)]
     for crate, files in (("vectors", vectors), ("blocks", program)):

@@ -65,6 +65,11 @@ capital-range c h =
     let (low, high) = and-eq-true-iff (leb 0x41 c) (leb c 0x5A) .0 h in
     (leb-true 0x41 c low, leb-true c 0x5A high)
 
+-- a word spells itself
+pub own-letters : (word : List ℕ) → EitherCase word word
+own-letters [] = end
+own-letters (c ∷ word) = capital (own-letters word)
+
 -- letters that spell a word are that word in capitals
 spelled-capitals : {word letters : List ℕ} → EitherCase word letters → all isCapital word ≡ true → map toCapital letters ≡ word
 unfolding all

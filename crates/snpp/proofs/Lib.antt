@@ -1,8 +1,9 @@
 pub mod AnswerLaws
 pub mod CommandLaws
-pub mod ExportLaws
 pub mod OfferLaws
+pub mod ReachedLaws
 pub mod ReactionLaws
+pub mod RoundTripLaws
 pub mod SendLaws
 pub mod SessionLaws
 pub mod StateLaws

@@ -1,6 +1,6 @@
 -- Laws of a page that is offered to the journal: as a transaction it is legal unless it is too long, and what is too long is not admitted.
 use mathlib.Core.Bool.{Bool, true, false, _&&_, and-eq-true-iff}
-use mathlib.Core.List.{List, [], _∷_, _++_}
+use mathlib.Core.List.{List, [], _∷_, _++_, append-assoc}
 use mathlib.Core.Option.{none, some}
 use mathlib.Core.Path.{_≡_, refl, sym, ap, _∙_}
 use Prim.Native.Nat.{ℕ, _+_, _≤_, _<_}
@@ -29,6 +29,10 @@ use Rattle.snpp.proofs.StateLaws.{Held}
 -- how long a page is as a transaction
 pub page-length : (pager text : List ℕ) → length (pageOf pager text) ≡ length pager + length text + 2
 page-length pager text = simp length-append (omega arith)
+
+-- its parts, laid one behind the other
+pub page-joined : (pager text : List ℕ) → (pager ++ CR ∷ []) ++ text ++ CR ∷ [] ≡ pageOf pager text
+page-joined pager text = simp append-assoc
 
 -- digits are characters of a field
 digits-printable : (text : List ℕ) → all digit text ≡ true → all printable text ≡ true

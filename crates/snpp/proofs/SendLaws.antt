@@ -15,6 +15,7 @@ use Rattle.journal.specs.Encoding.{Journal}
 use Rattle.journal.specs.Storage.{Storage, transactions, sizeOf, decodeIn, storedIn}
 use Rattle.admission.proofs.ContentLaws.{admits-parts}
 use Rattle.admission.specs.Content.{isPagerId, admits}
+use Rattle.central.specs.Inner.{transactionsIn}
 use Rattle.snpp.specs.Command.{Command, page, message, send, reset, quit, recognized}
 use Rattle.snpp.specs.Reaction.{Answer, success, order, badText, failed, Entry, empty, Session, ongoing, closed, Reaction, keeps, takesPager, takesMessage, sends, offers, follows, reacts, pageOf}
 use Rattle.snpp.specs.State.{sessionOf}
@@ -85,3 +86,40 @@ module _ {J : Type 0} (most : ℕ) (pagers : List ℕ) (store : Storage J) where
   pub stored-sent : (e : Entry) (journal after : J) → Stored e journal after → reacts most pagers store (ongoing e) journal (some send) ≡ record { next = ongoing empty; journal = after; answer = success }
   unfolding reacts
   stored-sent e journal after s = rw (s .page-entered, s .text-entered, s .admitted, s .put)
+
+-- ── A journal stays one ──
+
+-- a page that is stored
+stored-journal : (most : ℕ) (pagers : List ℕ) (ts : List (List ℕ)) (p m : Option (List ℕ)) (e : Entry) → SoundPager p → SoundMessage m → most ≤ 2000 → Journal ts →
+    Journal (sends most pagers transactions e ts p m .journal)
+stored-journal most pagers ts none m e s t l j = j
+stored-journal most pagers ts (some p) none e s t l j = j
+stored-journal most pagers ts (some p) (some m) e (a-pager s) (a-message t short) l j = go (admits most pagers transactions ts (pageOf p m)) refl
+  where
+    go : (b : Bool) → admits most pagers transactions ts (pageOf p m) ≡ b →
+        Journal ((if b then keeps most pagers transactions empty (transactions .put ts (pageOf p m)) success else keeps most pagers transactions empty ts failed) .journal)
+    go true h =
+        let (right, room) = admits-parts most pagers transactions ts (pageOf p m) h in
+        put-journal ts (pageOf p m) j (page-legal p m (pager-printable p s) t (omega (arith, right .within))) room
+    go false h = j
+
+-- whatever a session that can be does
+pub reacts-journal : (most : ℕ) (pagers : List ℕ) (x : Session) (ts : List (List ℕ)) (c : Option Command) → Sound x → most ≤ 2000 → Journal ts → Journal (reacts most pagers transactions x ts c .journal)
+unfolding reacts
+reacts-journal most pagers closed ts c s l j = j
+reacts-journal most pagers (ongoing e) ts none s l j = j
+reacts-journal most pagers (ongoing e) ts (some (page text)) s l j = rw (pager-keeps most pagers transactions e ts text) j
+reacts-journal most pagers (ongoing e) ts (some (message text)) s l j = rw (message-keeps most pagers transactions e ts text) j
+reacts-journal most pagers (ongoing e) ts (some send) (on p m) l j = stored-journal most pagers ts (e .pager) (e .message) e p m l j
+reacts-journal most pagers (ongoing e) ts (some reset) s l j = j
+reacts-journal most pagers (ongoing e) ts (some quit) s l j = j
+
+-- a step leaves a journal in its buffer, and it is read again
+pub step-keeps : (s : State) (settings : Settings) (pagers buffer : List ℕ) (n : ℕ) (line : List ℕ) (room : ℕ) (x : Reaction (List (List ℕ))) →
+    all byte buffer ≡ true → length (s .pager) ≡ 8 → length (s .message) ≡ 2043 → stepped s settings pagers buffer n line room ≡ done x →
+    Journal (x .journal) × (decodeIn (storedIn (done (x .journal)) buffer) (sizeOf (x .journal)) ≡ done (x .journal))
+step-keeps s settings pagers buffer n line room x bytes eight long e =
+    let (p, is) = stepped-passes s settings pagers buffer n line room x e in
+    let sound = range-sound s (ranged s (p .range)) eight long in
+    let j = reacts-journal (settings .longest) pagers (sessionOf s) (transactionsIn buffer n) (recognized line) sound (p .longest) (read-journal buffer n (transactionsIn buffer n) bytes (p .journal)) in
+    rw (← is) (j, stored-read buffer _ (read-buffer buffer n (transactionsIn buffer n) bytes (p .journal)) j)

@@ -42,7 +42,12 @@ held-own kind array n k h e =
     let rest : drop n array ≡ replicate (k - n) 0 = zeros (drop n array) (h .blank) ∙ rw (length-drop n array, e) in
     sym (rw (length-take-le n array (h .within), zeros-drop n k, ← rest) (take-append-drop n array))
 
--- a pager ID fits in its array
+-- the array of a pager ID has eight bytes
+pub eight-digits : length noDigits ≡ 8
+unfolding noDigits
+eight-digits = refl
+
+-- a pager ID fits in it
 pub pager-short : (text : List ℕ) → isPagerId text ≡ true → length text ≤ length noDigits
 unfolding noDigits
 pager-short text h =

@@ -6,14 +6,14 @@ use Prim.Native.Nat.{ℕ, _≤_}
 use lib.Dec.{eqb, leb}
 use lib.ListN.{length, take}
 use Rattle.line.specs.Answer.{done}
-use Rattle.line.specs.Character.{CR, byte}
+use Rattle.line.specs.Character.{CR, LF, byte}
 use Rattle.line.specs.Test.{all}
 use Rattle.journal.specs.Encoding.{encode}
 use Rattle.journal.specs.Storage.{sizeOf, isBuffer, storedIn}
 use Rattle.admission.specs.Content.{numberFrom, firstField, listed}
 use Rattle.central.specs.Step.{pagersInRange}
-use Rattle.snpp.specs.Export.{lineEnd, secondField, transactionsOf, writtenOut}
-use Rattle.snpp.specs.Reaction.{Answer, Reaction, success}
+use Rattle.export.specs.Export.{secondField, transactionsOf, writtenOut}
+use Rattle.snpp.specs.Reaction.{Answer, success, empty, Session, ongoing, Reaction}
 use Rattle.snpp.specs.State.{saved}
 use Rattle.snpp.specs.Step.{stepped, startState}
 use Rattle.snpp.specs.declared.state.Settings.{Settings}
@@ -22,7 +22,7 @@ use Rattle.snpp.specs.declared.state.State.{State}
 -- a text as lines, their endings off: each has CR LF behind it, and no CR within (R-15.11)
 pub data Lines : List ℕ → List (List ℕ) → Type 0 where
   none : Lines [] []
-  next : {line text : List ℕ} {lines : List (List ℕ)} → all (λ c. not (eqb c CR)) line ≡ true → Lines text lines → Lines (line ++ lineEnd ++ text) (line ∷ lines)
+  next : {line text : List ℕ} {lines : List (List ℕ)} → all (λ c. not (eqb c CR)) line ≡ true → Lines text lines → Lines (line ++ CR ∷ LF ∷ text) (line ∷ lines)
 
 -- what a driver keeps: the state, and the journal of so many bytes at the start of its buffer
 pub record Gateway : Type 0 where
@@ -59,9 +59,9 @@ unfoldable pub noneEmpty : List (List ℕ) → Bool
 noneEmpty [] = true
 noneEmpty (t ∷ ts) = leb 1 (length (secondField t)) && noneEmpty ts
 
--- a gateway between two pages: nothing has been entered, and its buffer holds this journal
-pub record Holding (ts : List (List ℕ)) (g : Gateway) : Type 0 where
-  pub state : g .state ≡ startState
+-- a gateway in such a session, whose buffer holds the bytes of this journal
+pub record Holding (x : Session) (ts : List (List ℕ)) (g : Gateway) : Type 0 where
+  pub state : g .state ≡ saved x
   pub buffer : isBuffer (g .buffer) ≡ true
   pub count : g .length ≡ sizeOf ts
   pub journal : take (g .length) (g .buffer) ≡ encode ts
@@ -80,4 +80,4 @@ abbrev pub RoundTrip : Type 0
 RoundTrip =
     (journal text pagers : List ℕ) (settings : Settings) (g : Gateway) (whole room : ℕ) → all byte journal ≡ true →
     writtenOut journal whole ≡ done text → noneEmpty (transactionsOf journal) ≡ true → allListed pagers (transactionsOf journal) ≡ true →
-    pagersInRange pagers ≡ true → settings .longest ≡ 2000 → Holding [] g → 6 ≤ room → TakenIn settings pagers room g text journal
+    pagersInRange pagers ≡ true → settings .longest ≡ 2000 → Holding (ongoing empty) [] g → 6 ≤ room → TakenIn settings pagers room g text journal

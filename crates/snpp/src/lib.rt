@@ -1,9 +1,14 @@
 // An SNPP gateway (RFC 1861, level 1) in front of the journal: a session that is stepped line by
-// line, and a journal written out as the lines that bring it in again.
+// line. What writes a journal out as such lines is `export`'s.
 pub mod answer;
-pub mod command;
-pub mod export;
+mod command;
 pub mod range;
-pub mod reaction;
+mod reaction;
 pub mod state;
 pub mod step;
+
+pub use export::write_out;
+pub use state::Settings;
+pub use state::Stage;
+pub use state::State;
+pub use state::Stepped;

@@ -3,7 +3,6 @@ use crate::answer::Answer;
 use crate::command::Command;
 use crate::command::TEXT;
 use crate::command::recognize;
-use crate::export::put_text;
 use crate::state::Control;
 use crate::state::Settings;
 use crate::state::Stage;
@@ -162,15 +161,16 @@ fn offer(
         Offers longest (now (pagers .entry)) length (now (pager .entry)) (now (message .entry))
         r (now (journal .entry)) (now (journal .exit)) ⌝ }
 {
-    let n = pager.len() + message.len() + 2;
+    let k = pager.len();
+    let n = k + message.len() + 2;
     if MOST_INFORMATION < n {
         return Admitted::Rejected;
     }
     let mut info = [0u8; MOST_INFORMATION];
-    let first = put_text(pager, &mut info, 0);
-    let second = put_text(&[CR], &mut info, first);
-    let third = put_text(message, &mut info, second);
-    put_text(&[CR], &mut info, third);
+    copy(pager, &mut info);
+    info[k] = CR;
+    copy(message, &mut info[k + 1..]);
+    info[n - 1] = CR;
     admit(&info[..n], longest, pagers, journal, length)
 }
 

@@ -22,6 +22,9 @@ use crate::ends::print_conversation;
 use crate::ends::print_play;
 use crate::framing::ROOM;
 use crate::framing::print_framing;
+use crate::gateway::OUTPUT;
+use crate::gateway::SIZE;
+use crate::gateway::print_gateway;
 use crate::names;
 use crate::names::COMMA;
 use crate::names::NOTHING;
@@ -134,6 +137,12 @@ fn loan_of(call: &[u8]) -> Loan
             room: number(call, 10),
             filler: 0,
         },
+        b'z' => Loan {
+            size: number(call, SIZE),
+            word: 5,
+            room: number(call, OUTPUT),
+            filler: FILLER,
+        },
         b'l' => Loan {
             size: 512,
             word: 0,
@@ -180,6 +189,7 @@ fn print_lent(call: &[u8], pagers: &[u32], memory: &mut [u8], out: &mut [u8]) {
         b'e' | b'g' | b'x' => print_play(call, out),
         b'l' => print_driver(call, memory, out),
         b'm' => print_framing(call, out),
+        b'z' => print_gateway(call, pagers, memory, out),
         b'i' => print_settled(call, memory),
         _ => print_output(call, memory),
     }

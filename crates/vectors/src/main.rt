@@ -7,6 +7,7 @@ mod calls;
 mod driver;
 mod ends;
 mod framing;
+mod gateway;
 mod names;
 mod remarks;
 mod runs;

@@ -1,43 +1,82 @@
--- `offer` meets its contract: what is over 2,000 characters is not admitted; else pager ID, CR, message and CR are the transaction that is offered.
+-- `offer` meets its contract: what is over 2,000 characters is not admitted; else pager ID, CR, message and CR, laid one behind the other, are the transaction that is offered.
 use mathlib.Core.Bool.{true}
-use mathlib.Core.List.{[], _∷_, _++_}
+use mathlib.Core.List.{List, [], _∷_, _++_}
 use mathlib.Core.Path.{_≡_, refl, sym, ap, _∙_}
-use Prim.Native.Nat.{_+_, _≤_}
+use Prim.Native.Nat.{ℕ, _+_, _-_, _≤_}
 use native.Mathlib.Omega.{arith}
-use lib.ListN.{length, take}
+use borrow.Rule.Slice.PartMut.{putMid}
+use lib.ListN.{length, take, replicate, set, length-append, length-replicate, length-set}
 use lib.Seq.{length-take-le}
 use Rattle.line.proofs.AllLaws.{all-bytes}
-use Rattle.line.proofs.LaidLaws.{laid-none}
-use Rattle.line.proofs.OverlayLaws.{overlay-start}
+use Rattle.line.proofs.CopyLaws.{copied-laid, copied-part}
+use Rattle.line.proofs.LaidLaws.{laid-length, laid-snoc, laid-start}
 use Rattle.line.specs.Answer.{Laid}
 use Rattle.line.specs.Character.{CR, byte}
 use Rattle.line.specs.Test.{all}
-use Rattle.snpp.proofs.ExportLaws.{adds-room, adds-more}
-use Rattle.snpp.proofs.OfferLaws.{page-length, pager-printable, page-legal, offers-long, offers-admitted}
+use Rattle.snpp.proofs.OfferLaws.{page-length, page-joined, pager-printable, page-legal, offers-long, offers-admitted}
 use Rattle.snpp.specs.Reaction.{pageOf}
 use borrow.Author.Needs.{needs}
 use Rattle.snpp.proofs.reaction.offer.Statement.{statement}
 use Rattle.snpp.proofs.reaction.offer.Tie as tie
 
+-- where the function began, from behind the first test and from behind the first copy
+abbrev start : tie.Else1 → tie.Start
+start e = e .before .before .before .before .before
+
+abbrev began : tie.After-copy → tie.Start
+began c = start (c .before .before)
+
+-- the array before it is written to
+abbrev zeros : List ℕ
+zeros = replicate 2000 0
+
+zeros-length : length zeros ≡ 2000
+zeros-length = length-replicate {A = ℕ} 2000 0
+
 -- the buffer's bytes are bytes
 bytes : (c : tie.After-slice-known) → all byte (c .before .before .before .before .args .journal .now) ≡ true
 bytes c = all-bytes _ (c .slice-known .given)
 
--- the room behind the pager ID
-first : (c : tie.After-put-text) →
-    let a = c .before .before .before .before .before .before .before .args in
-    c .put-text .result + (length (a .message .now) + 2) ≤ length (c .put-text .last .1 .0)
-first c = adds-room (c .put-text .ensures) _ (omega (arith, c .before .before .if1 .left))
+-- the pager ID and its CR are laid
+first : (c : tie.After-copy) → let p = began c .args .pager .now in Laid (p ++ CR ∷ []) (length p + 1) zeros (set (c .copy .last .1 .0) (length p) CR)
+first c =
+    let p = began c .args .pager .now in
+    let fits = c .before .before .if1 .left in
+    let laid : Laid p (length p) zeros (c .copy .last .1 .0) = record { counts = refl; leaves = copied-laid p zeros (c .copy .last .1 .0) (omega (arith, zeros-length)) (c .copy .ensures) } in
+    laid-snoc (length p + 1) CR laid (omega (arith, zeros-length)) refl
 
--- behind its CR
-second : (c : tie.After-put-text2) →
-    let a = c .before .before .before .before .before .before .before .before .before .before .before .args in
-    c .put-text2 .result + (length (a .message .now) + 1) ≤ length (c .put-text2 .last .1 .0)
-second c = adds-room (c .put-text2 .ensures) _ (omega (arith, first (c .before .before .before .before)))
+-- the array keeps its length
+sized : (c : tie.After-copy) → length (set (c .copy .last .1 .0) (length (began c .args .pager .now)) CR) ≡ 2000
+sized c = let fits = c .before .before .if1 .left in laid-length (first c) (omega (arith, zeros-length)) ∙ zeros-length
 
--- behind the message
-third : (c : tie.After-put-text3) → c .put-text3 .result + 1 ≤ length (c .put-text3 .last .1 .0)
-third c = adds-room (c .put-text3 .ensures) _ (omega (arith, second (c .before .before .before)))
+-- the array behind both copies
+abbrev both : tie.After-copy2 → List ℕ
+both c =
+    let d = c .before .before .before in
+    let k = length (began d .args .pager .now) in
+    putMid (k + 1) (2000 - (k + 1)) (set (d .copy .last .1 .0) k CR) (c .copy2 .last .1 .0)
+
+-- the whole page is laid
+whole : (c : tie.After-copy2) →
+    let a = began (c .before .before .before) .args in
+    let n = length (a .pager .now) + length (a .message .now) + 2 in
+    Laid (pageOf (a .pager .now) (a .message .now)) n zeros (set (both c) (n - 1) CR)
+whole c =
+    let d = c .before .before .before in
+    let p = began d .args .pager .now in
+    let m = began d .args .message .now in
+    let fits = d .before .before .if1 .left in
+    let front = first d in
+    let size = sized d in
+    let behind = rw size at (copied-part {r = c .copy2 .result} (p ++ CR ∷ []) m zeros (set (d .copy .last .1 .0) (length p) CR) (c .copy2 .last .1 .0) (length p + 1) (front .leaves) (sym (front .counts)) (omega (arith, zeros-length)) (rw size (c .copy2 .ensures))) in
+    let laid : Laid ((p ++ CR ∷ []) ++ m) (length p + length m + 2 - 1) zeros (both c) = record { counts = omega (arith, length-append (p ++ CR ∷ []) m, front .counts); leaves = behind } in
+    rw (page-joined p m) at (laid-snoc (length p + length m + 2) CR laid (omega (arith, zeros-length)) (omega arith))
+
+-- and the array has still its length
+whole-sized : (c : tie.After-copy2) →
+    let a = began (c .before .before .before) .args in
+    length (set (both c) (length (a .pager .now) + length (a .message .now) + 2 - 1) CR) ≡ 2000
+whole-sized c = let fits = c .before .before .before .before .before .if1 .left in laid-length (whole c) (omega (arith, zeros-length)) ∙ zeros-length
 
 add-n : tie.Need-add-n
 add-n c = search needs
@@ -53,43 +92,41 @@ returns c =
     let p = s .pre in
     offers-long (a .longest) (a .pagers .now) (a .journal .now) (a .length) (a .pager .now) (a .message .now) (bytes k) (p .4) (p .0) (rw page-length (c .if1 .taken))
 
-slice-aggregate-put-text : tie.Need-slice-aggregate-put-text
-slice-aggregate-put-text c = search needs
+slice-aggregate-copy : tie.Need-slice-aggregate-copy
+slice-aggregate-copy c = search needs
 
-put-text-requires : tie.Need-put-text-requires
-put-text-requires c κs = search needs
+copy-requires : tie.Need-copy-requires
+copy-requires c κs = search needs
 
-slice-aggregate-put-text-2 : tie.Need-slice-aggregate-put-text-2
-slice-aggregate-put-text-2 c = search needs
+array-write-info : tie.Need-array-write-info
+array-write-info c = search needs
 
-slice-aggregate-put-text-3 : tie.Need-slice-aggregate-put-text-3
-slice-aggregate-put-text-3 c = search needs
+add-info : tie.Need-add-info
+add-info c = search needs
 
-put-text-requires-2 : tie.Need-put-text-requires-2
-put-text-requires-2 c κs = omega (arith, first (c .before .before .before))
+sub-copy : tie.Need-sub-copy
+sub-copy c = search needs
 
-slice-aggregate-put-text-4 : tie.Need-slice-aggregate-put-text-4
-slice-aggregate-put-text-4 c = search needs
+part-info-start : tie.Need-part-info-start
+part-info-start c = search needs
 
-put-text-requires-3 : tie.Need-put-text-requires-3
-put-text-requires-3 c κs = omega (arith, second (c .before .before))
+part-info-end : tie.Need-part-info-end
+part-info-end c = omega (arith, sized (c .before))
 
-slice-aggregate-put-text-5 : tie.Need-slice-aggregate-put-text-5
-slice-aggregate-put-text-5 c = search needs
+copy-requires-2 : tie.Need-copy-requires-2
+copy-requires-2 c κs = search needs
 
-slice-aggregate-put-text-6 : tie.Need-slice-aggregate-put-text-6
-slice-aggregate-put-text-6 c = search needs
+sub-info : tie.Need-sub-info
+sub-info c = search needs
 
-put-text-requires-4 : tie.Need-put-text-requires-4
-put-text-requires-4 c κs = omega (arith, third (c .before .before .before))
+array-write-info-2 : tie.Need-array-write-info-2
+array-write-info-2 c = search needs
 
 array-share-prefix-info : tie.Need-array-share-prefix-info
-array-share-prefix-info c = search needs
+array-share-prefix-info c = omega (arith, whole-sized (c .before), c .before .before .before .before .before .before .if1 .left)
 
 slice-aggregate-admit : tie.Need-slice-aggregate-admit
-slice-aggregate-admit c =
-    let e = c .before .before .before .before .before .before .before .before .before .before .before .before .before .before .before in
-    sym (length-take-le _ _ (omega (arith, e .if1 .left)))
+slice-aggregate-admit c = sym (length-take-le _ _ (omega (arith, whole-sized (c .before .before), c .before .before .before .before .before .before .before .if1 .left)))
 
 admit-requires : tie.Need-admit-requires
 admit-requires c κs = search needs
@@ -100,22 +137,13 @@ same-length c = search needs
 returns-2 : tie.Need-returns-2
 returns-2 c =
     let g = c .before .before in
-    let t₄ = g .before .before .before .before in
-    let t₃ = t₄ .before .before .before .before in
-    let t₂ = t₃ .before .before .before in
-    let t₁ = t₂ .before .before .before .before in
-    let e = t₁ .before .before in
-    let s = e .before .before .before .before .before in
-    let a = s .args in
-    let p = s .pre in
-    let t = pageOf (a .pager .now) (a .message .now) in
+    let d = g .before .before .before .before in
+    let e = d .before .before .before .before .before in
+    let a = start e .args in
+    let p = start e .pre in
     let long = page-length (a .pager .now) (a .message .now) in
-    let three = adds-more (t₃ .put-text3 .ensures) (omega (arith, second t₂)) (t₄ .put-text4 .ensures) in
-    let two = adds-more (t₂ .put-text2 .ensures) (omega (arith, first t₁)) three in
-    let laid = adds-more (t₁ .put-text .ensures) (omega (arith, e .if1 .left)) two [] _ (laid-none _) refl in
-    let made : take (length (a .pager .now) + length (a .message .now) + 2) (t₄ .put-text4 .last .1 .0) ≡ t = rw (laid .leaves) (overlay-start t _ _ long) in
     let good = page-legal (a .pager .now) (a .message .now) (pager-printable (a .pager .now) (p .1)) (p .2) (omega (arith, e .if1 .left)) in
-    offers-admitted (a .longest) (a .pagers .now) (a .journal .now) (a .length) (a .pager .now) (a .message .now) (bytes (e .before)) (p .4) good (rw made at (g .admit .ensures))
+    offers-admitted (a .longest) (a .pagers .now) (a .journal .now) (a .length) (a .pager .now) (a .message .now) (bytes (e .before)) (p .4) good (rw (laid-start (whole d)) at (g .admit .ensures))
 
 pub offer-spec : {M : Type 1} → statement M
 offer-spec =
@@ -124,16 +152,16 @@ offer-spec =
     add-n
     add-n-2
     returns
-    slice-aggregate-put-text
-    put-text-requires
-    slice-aggregate-put-text-2
-    slice-aggregate-put-text-3
-    put-text-requires-2
-    slice-aggregate-put-text-4
-    put-text-requires-3
-    slice-aggregate-put-text-5
-    slice-aggregate-put-text-6
-    put-text-requires-4
+    slice-aggregate-copy
+    copy-requires
+    array-write-info
+    add-info
+    sub-copy
+    part-info-start
+    part-info-end
+    copy-requires-2
+    sub-info
+    array-write-info-2
     array-share-prefix-info
     slice-aggregate-admit
     admit-requires

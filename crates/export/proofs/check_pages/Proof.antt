@@ -2,10 +2,10 @@
 use mathlib.Core.Path.{sym, ap, _∙_}
 use Rattle.journal.proofs.EncodingLaws.{trailer-inside}
 use Rattle.journal.specs.Walk.{openedAs}
-use Rattle.snpp.proofs.ExportLaws.{opened-pages, unopened-pages}
+use Rattle.export.proofs.ExportLaws.{opened-pages, unopened-pages}
 use borrow.Author.Needs.{needs}
-use Rattle.snpp.proofs.export.check_pages.Statement.{statement}
-use Rattle.snpp.proofs.export.check_pages.Tie as tie
+use Rattle.export.proofs.check_pages.Statement.{statement}
+use Rattle.export.proofs.check_pages.Tie as tie
 
 open-requires : tie.Need-open-requires
 open-requires c κs = search needs

@@ -30,7 +30,7 @@ use Rattle.journal.specs.declared.cursor.Place.{Place}
 use Rattle.journal.specs.declared.cursor.Position.{Position}
 use Rattle.admission.proofs.ContentLaws.{TwoFields, two-fields, fields-first}
 use Rattle.admission.specs.Content.{firstField, fieldCount, isPagerId, isPage}
-use Rattle.snpp.specs.Export.{Adds, Exportable, pageLines, secondField, linesFor, linesOf, allPages, onlyPages, pagesIn, pagesFrom, transactionsOf}
+use Rattle.export.specs.Export.{Adds, Exportable, pageLines, secondField, linesFor, linesOf, allPages, onlyPages, pagesIn, pagesFrom, transactionsOf}
 
 -- ── Bytes behind what is there ──
 

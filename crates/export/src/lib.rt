@@ -18,7 +18,7 @@ ghost use Prim.Native.Nat.{_+_, _≤_};
 ghost use lib.ListN as ListN;
 ghost use Rattle.line.specs.Answer.{Laid, Wrote, checkedAs, mapDone};
 ghost use Rattle.journal.specs.Cursor.{walkFrom};
-ghost use Rattle.snpp.specs.Export.{Adds, Exportable, linesOf, pageLines, pagesFrom, pagesIn, transactionsOf, writtenOut};
+ghost use Rattle.export.specs.Export.{Adds, Exportable, linesOf, pageLines, pagesFrom, pagesIn, transactionsOf, writtenOut};
 
 // The longest answer of any journal.
 pub const ROOM: usize = 33024;
@@ -108,7 +108,7 @@ fn put_page(pager: &[u8], message: &[u8], out: &mut [u8], at: usize) -> usize
 }
 
 // A text, behind what is there.
-pub(crate) fn put_text(text: &[u8], out: &mut [u8], at: usize) -> usize
+fn put_text(text: &[u8], out: &mut [u8], at: usize) -> usize
     requires { ⌜ at + ListN.length (now text) ≤ ListN.length (now out) ⌝ }
     ensures { λ r. ⌜ Adds at (now (text .entry)) r (now (out .entry)) (now (out .exit)) ⌝ }
 {

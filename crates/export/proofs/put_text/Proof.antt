@@ -1,8 +1,8 @@
 -- `put_text` meets its contract: the output has room behind what is there, so the text is copied there.
-use Rattle.snpp.proofs.ExportLaws.{copied-adds}
+use Rattle.export.proofs.ExportLaws.{copied-adds}
 use borrow.Author.Needs.{needs}
-use Rattle.snpp.proofs.export.put_text.Statement.{statement}
-use Rattle.snpp.proofs.export.put_text.Tie as tie
+use Rattle.export.proofs.put_text.Statement.{statement}
+use Rattle.export.proofs.put_text.Tie as tie
 
 sub-copy : tie.Need-sub-copy
 sub-copy c = search needs

@@ -9,10 +9,10 @@ use Rattle.line.proofs.AllLaws.{all-bytes}
 use Rattle.line.proofs.FindLaws.{find-within}
 use Rattle.line.specs.Character.{CR, byte}
 use Rattle.line.specs.Test.{all}
-use Rattle.snpp.proofs.ExportLaws.{exported-long, Putting, Found, putting-none, putting-some, putting-all, putting-found, putting-room, putting-more}
+use Rattle.export.proofs.ExportLaws.{exported-long, Putting, Found, putting-none, putting-some, putting-all, putting-found, putting-room, putting-more}
 use borrow.Author.Needs.{needs}
-use Rattle.snpp.proofs.export.put_pages.Statement.{statement}
-use Rattle.snpp.proofs.export.put_pages.Tie as tie
+use Rattle.export.proofs.put_pages.Statement.{statement}
+use Rattle.export.proofs.put_pages.Tie as tie
 
 abbrev Inv-loop : tie.InvT-loop
 Inv-loop journal out₀ end at₀ n₀ out at n = (rest : List (List ℕ)) × Putting journal out₀ out end at n rest

@@ -7,11 +7,11 @@ use Rattle.line.proofs.OutcomeLaws.{map-refused}
 use Rattle.line.proofs.OverlayLaws.{wrote-refused}
 use Rattle.line.specs.Answer.{done, checkedAs}
 use Rattle.line.specs.declared.answer.Refusal.the-variants.{Size}
-use Rattle.snpp.specs.Export.{writtenOut, pagesIn, transactionsOf}
-use Rattle.snpp.proofs.ExportLaws.{pages-counted}
+use Rattle.export.specs.Export.{writtenOut, pagesIn, transactionsOf}
+use Rattle.export.proofs.ExportLaws.{pages-counted}
 use borrow.Author.Needs.{needs}
-use Rattle.snpp.proofs.export.write_out.Statement.{statement}
-use Rattle.snpp.proofs.export.write_out.Tie as tie
+use Rattle.export.proofs.write_out.Statement.{statement}
+use Rattle.export.proofs.write_out.Tie as tie
 
 -- what is counted is a journal of pages
 pages : (c : tie.After-enum-told) →

@@ -2,10 +2,10 @@
 use Prim.Native.Nat.{_+_, _≤_}
 use native.Mathlib.Omega.{arith}
 use lib.ListN.{length}
-use Rattle.snpp.proofs.ExportLaws.{adds-room, adds-more, page-texts}
+use Rattle.export.proofs.ExportLaws.{adds-room, adds-more, page-texts}
 use borrow.Author.Needs.{needs}
-use Rattle.snpp.proofs.export.put_page.Statement.{statement}
-use Rattle.snpp.proofs.export.put_page.Tie as tie
+use Rattle.export.proofs.put_page.Statement.{statement}
+use Rattle.export.proofs.put_page.Tie as tie
 
 -- the room behind the first text
 first : (c : tie.After-put-text) →

@@ -10,11 +10,11 @@ use Rattle.journal.specs.Cursor.{transactionAt}
 use Rattle.journal.specs.Walk.{stepAs, stepFrom}
 use Rattle.journal.proofs.CursorLaws.{step-place}
 use Rattle.admission.specs.Content.{isPage}
-use Rattle.snpp.specs.Export.{pagesFrom}
-use Rattle.snpp.proofs.ExportLaws.{Looked, looked-none, looked-more, looked-all, looked-refused}
+use Rattle.export.specs.Export.{pagesFrom}
+use Rattle.export.proofs.ExportLaws.{Looked, looked-none, looked-more, looked-all, looked-refused}
 use borrow.Author.Needs.{needs}
-use Rattle.snpp.proofs.export.check_from.Statement.{statement}
-use Rattle.snpp.proofs.export.check_from.Tie as tie
+use Rattle.export.proofs.check_from.Statement.{statement}
+use Rattle.export.proofs.check_from.Tie as tie
 
 abbrev Inv-loop : tie.InvT-loop
 Inv-loop journal count at₀ every₀ at every = Looked journal at₀ at every
