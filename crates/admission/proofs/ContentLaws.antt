@@ -95,7 +95,7 @@ first-before (c ∷ t) = go (eqb c CR) (first-before t)
     go false h = rw h
 
 -- a character of a field is no CR
-printable-other : (c : ℕ) → printable c ≡ true → eqb c CR ≡ false
+pub printable-other : (c : ℕ) → printable c ≡ true → eqb c CR ≡ false
 printable-other c h =
     let (low, _) = and-eq-true-iff (leb 0x20 c) (leb c 0x7E) .0 h in
     ne-eqb c CR (λ e. omega (arith, leb-true 0x20 c low))

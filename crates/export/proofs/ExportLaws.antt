@@ -5,8 +5,8 @@ use mathlib.Core.Option.{none, some}
 use mathlib.Core.Path.{_≡_, refl, sym, ap, _∙_}
 use Prim.Native.Nat.{ℕ, _+_, _-_, _*_, _≤_, _<_}
 use native.Mathlib.Omega.{arith}
-use borrow.Author.Tests.{leb-true, eqb-true, ne-eqb}
-use lib.Dec.{eqb, leb}
+use borrow.Author.Tests.{eqb-true}
+use lib.Dec.{eqb}
 use lib.ListN.{length, take, drop, length-append, length-reverse, take-append-drop}
 use lib.Seq.{length-take-le, take-at, drop-drop, drop-append-seam, drop-append-add}
 use Rattle.line.proofs.CopyLaws.{copied-laid}
@@ -28,7 +28,7 @@ use Rattle.journal.specs.Encoding.{twoBytes, recordOf, recordsOf, encode, allLe
 use Rattle.journal.specs.Walk.{trailer, decode, stepFrom}
 use Rattle.journal.specs.declared.cursor.Place.{Place}
 use Rattle.journal.specs.declared.cursor.Position.{Position}
-use Rattle.admission.proofs.ContentLaws.{TwoFields, two-fields, fields-first}
+use Rattle.admission.proofs.ContentLaws.{TwoFields, two-fields, fields-first, printable-other}
 use Rattle.admission.specs.Content.{firstField, fieldCount, isPagerId, isPage}
 use Rattle.export.specs.Export.{Adds, Exportable, pageLines, secondField, linesFor, linesOf, allPages, onlyPages, pagesIn, pagesFrom, transactionsOf}
 
@@ -178,8 +178,7 @@ unfolding all before
 before-field [] t h = refl
 before-field (c ∷ f) t h =
     let (p, q) = and-eq-true-iff (printable c) (all printable f) .0 h in
-    let (low, _) = and-eq-true-iff (leb 0x20 c) (leb c 0x7E) .0 p in
-    rw (ne-eqb c CR (λ e. omega (arith, leb-true 0x20 c low)), before-field f t q)
+    rw (printable-other c p, before-field f t q)
 
 -- ── The lines of a journal, record by record ──
 

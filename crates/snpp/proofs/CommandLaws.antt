@@ -1,15 +1,15 @@
 -- Laws of commands: the lines that say one are those that are recognized as it, and how the code reads a line's word.
-use mathlib.Core.Bool.{Bool, true, false, _&&_, false≢true, and-eq-true-iff}
+use mathlib.Core.Bool.{Bool, true, false, _&&_, and-eq-true-iff}
 use mathlib.Core.List.{List, [], _∷_, _++_, map, append-nil}
 use mathlib.Core.Option.{Option, none, some}
 use mathlib.Core.Path.{_≡_, refl, sym, ap, subst, _∙_}
 use Prim.Native.Nat.{ℕ, _+_, _-_, _≤_, _<_}
 use native.Mathlib.Omega.{arith}
-use borrow.Author.Tests.{eq-eqb, ne-eqb, eqb-true, leb-true, leb-false, le-leb, lt-leb}
+use borrow.Author.Tests.{eq-eqb, ne-eqb, eqb-true, leb-true, le-leb, lt-leb}
 use lib.Dec.{eqb, leb}
-use lib.ListN.{length, getD, take, drop, length-map, length-append, length-take, take-append-drop, drop-of-length-le}
+use lib.ListN.{length, getD, take, drop, length-map, length-append, take-append-drop, drop-of-length-le}
 use lib.Seq.{drop-cons, take-at, drop-at, take-all}
-use Rattle.line.proofs.SameLaws.{same-equal, same-self, same-lengths}
+use Rattle.line.proofs.SameLaws.{same-equal, same-lengths}
 use Rattle.line.specs.Test.{if_then_else_, all, same}
 use Rattle.line.specs.Text.{bytesOf}
 use Rattle.snpp.specs.Command.{Command, page, message, send, reset, quit, EitherCase, end, capital, small, SPACE, Says, pages, messages, sends, resets, quits, toCapital, bareCommand, textCommand, commandWith, recognized}

@@ -1,21 +1,20 @@
 -- Laws of a page that is offered to the journal: as a transaction it is legal unless it is too long, and what is too long is not admitted.
-use mathlib.Core.Bool.{Bool, true, false, _&&_, and-eq-true-iff}
+use mathlib.Core.Bool.{true, false, _&&_, and-eq-true-iff}
 use mathlib.Core.List.{List, [], _∷_, _++_, append-assoc}
 use mathlib.Core.Option.{none, some}
-use mathlib.Core.Path.{_≡_, refl, sym, ap, _∙_}
+use mathlib.Core.Path.{_≡_, sym}
 use Prim.Native.Nat.{ℕ, _+_, _≤_, _<_}
 use native.Mathlib.Omega.{arith}
 use borrow.Author.Tests.{le-leb, lt-leb, leb-true, eqb-false}
 use lib.Dec.{eqb, leb}
 use lib.ListN.{length, take, length-append}
 use lib.Seq.{length-take-le}
-use Rattle.line.proofs.AllLaws.{all-append, all-weaken}
-use Rattle.line.proofs.TransactionLaws.{printable-textual, ends-joined, transaction-legal}
+use Rattle.line.proofs.AllLaws.{all-weaken}
+use Rattle.line.proofs.TransactionLaws.{transaction-legal}
 use Rattle.line.specs.Character.{CR, byte, printable, digit}
-use Rattle.line.specs.Test.{if_then_else_, all}
-use Rattle.line.specs.Transaction.{Fields, none, next, Transaction, legal}
+use Rattle.line.specs.Test.{all}
+use Rattle.line.specs.Transaction.{Fields, none, next, legal}
 use Rattle.journal.proofs.StorageLaws.{stored-own}
-use Rattle.journal.specs.Storage.{transactions}
 use Rattle.admission.proofs.AdmissionLaws.{admit-stores}
 use Rattle.admission.specs.Admission.{Admits, admitTo}
 use Rattle.admission.specs.Content.{isPagerId, content, admits}

@@ -1,28 +1,27 @@
 -- The start leads to the states in range, and to no others: what a step leaves can be, and what can be is brought about by PAGE, MESS and QUIT.
-use mathlib.Core.Bool.{true, _&&_, and-eq-true-iff}
+use mathlib.Core.Bool.{true, _&&_}
 use mathlib.Core.List.{List, [], _∷_, _++_}
 use mathlib.Core.Option.{Option, none, some}
-use mathlib.Core.Path.{_≡_, refl, sym, ap, subst, _∙_}
+use mathlib.Core.Path.{_≡_, refl, ap, subst, _∙_}
 use Prim.Native.Nat.{ℕ, _+_, _≤_}
 use native.Mathlib.Omega.{arith}
-use borrow.Author.Tests.{eq-eqb, leb-true}
-use lib.Dec.{leb}
-use lib.ListN.{length, replicate, length-replicate, length-append}
+use borrow.Author.Tests.{eq-eqb}
+use lib.ListN.{length, replicate, length-replicate}
 use Rattle.line.specs.Answer.{done}
 use Rattle.line.specs.Character.{printable}
 use Rattle.line.specs.Test.{all}
 use Rattle.line.specs.Text.{bytesOf}
 use Rattle.journal.proofs.StorageLaws.{stored-read}
-use Rattle.journal.specs.Encoding.{allLegal, Journal, recordsOf}
+use Rattle.journal.specs.Encoding.{allLegal, recordsOf}
 use Rattle.journal.specs.Storage.{transactions, sizeOf, isBuffer, decodeIn, storedIn}
 use Rattle.admission.specs.Content.{isPagerId}
 use Rattle.central.specs.Inner.{transactionsIn}
 use Rattle.central.specs.Step.{pagersInRange}
-use Rattle.snpp.specs.Command.{Command, page, message, send, reset, quit, SPACE, Says, pages, messages, quits, recognized}
+use Rattle.snpp.specs.Command.{Command, page, message, quit, SPACE, Says, pages, messages, quits, recognized}
 use Rattle.snpp.specs.Driver.{Reached, begun, onward}
-use Rattle.snpp.specs.Reaction.{Entry, empty, Session, ongoing, closed, Reaction, reacts}
+use Rattle.snpp.specs.Reaction.{empty, Session, ongoing, closed, reacts}
 use Rattle.snpp.specs.State.{saved, sessionOf, inRange}
-use Rattle.snpp.specs.Step.{settingsInRange, stepped, tested}
+use Rattle.snpp.specs.Step.{settingsInRange, stepped}
 use Rattle.snpp.specs.declared.state.Settings.{Settings}
 use Rattle.snpp.specs.declared.state.State.{State}
 use Rattle.snpp.proofs.CommandLaws.{own-letters, says-recognized, text-behind}

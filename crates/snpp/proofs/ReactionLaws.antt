@@ -4,9 +4,8 @@ use mathlib.Core.List.{List, []}
 use mathlib.Core.Logic.{_⊎_, inl, inr}
 use mathlib.Core.Option.{Option, none, some, Option·getD}
 use mathlib.Core.Path.{_≡_, refl, sym, ap, _∙_}
-use Prim.Native.Nat.{ℕ, _≤_}
+use Prim.Native.Nat.{ℕ}
 use native.Mathlib.Omega.{arith}
-use borrow.Author.Tests.{eq-eqb, ne-eqb}
 use lib.Dec.{eqb}
 use lib.ListN.{length, take}
 use Rattle.line.proofs.OverlayLaws.{overlay-none}
@@ -21,8 +20,8 @@ use Rattle.admission.specs.declared.Admitted.{Admitted}
 use Rattle.central.specs.Inner.{transactionsIn}
 use Rattle.snpp.specs.Command.{Command, page, message, send, reset, quit}
 use Rattle.snpp.specs.Inner.{answerOf, stateOf, Ready, reactsIn, Does, isEntered, staying, emptied, pagerTaken, Enters, admitsPage, withPage, Offers}
-use Rattle.snpp.specs.Reaction.{nothing, success, goodbye, order, badText, failed, Entry, empty, Session, ongoing, closed, Reaction, keeps, takesMessage, sends, offers, follows, reacts, pageOf}
-use Rattle.snpp.specs.State.{noDigits, noText, saved, messageAt, entryIn, isClosed, sessionOf, textIn}
+use Rattle.snpp.specs.Reaction.{nothing, success, goodbye, order, badText, failed, Entry, empty, Session, ongoing, closed, Reaction, goesOn, holdsMessage, sends, offers, follows, reacts, pageOf}
+use Rattle.snpp.specs.State.{noDigits, noText, saved, messageAt, entryIn, isClosed, textIn}
 use Rattle.snpp.specs.declared.answer.Answer as Code
 use Rattle.snpp.specs.declared.answer.Answer.the-variants.{Nothing, Success, Goodbye, Unknown, Order, BadText, Failed}
 use Rattle.snpp.specs.declared.reaction.Reacted.{Reacted}
@@ -87,8 +86,8 @@ module _ (settings : Settings) (pagers : List ℕ) (k : Control) (array buffer :
     reacts-follows c = rw going
 
     -- an answer that changes nothing
-    does-keeps : (a : Code.Answer) → Does (keeps (settings .longest) pagers transactions e ts (answerOf a)) (staying k a n) array buffer buffer
-    does-keeps a = does-moves (keeps (settings .longest) pagers transactions e ts (answerOf a)) refl (sym own) refl refl
+    does-keeps : (a : Code.Answer) → Does (goesOn e ts (answerOf a)) (staying k a n) array buffer buffer
+    does-keeps a = does-moves (goesOn e ts (answerOf a)) refl (sym own) refl refl
 
     -- a command that is not understood
     pub does-unknown : Does (reactsIn settings pagers k array buffer n none) (staying k Unknown n) array buffer buffer
@@ -99,24 +98,24 @@ module _ (settings : Settings) (pagers : List ℕ) (k : Control) (array buffer :
     does-pager text = rw (reacts-follows (some (page text))) (go (isPagerId text))
       where
         go : (b : Bool) →
-            Does (if b then keeps (settings .longest) pagers transactions (record { pager = some text; message = e .message }) ts success else keeps (settings .longest) pagers transactions e ts (answerOf BadText))
+            Does (if b then goesOn (record { pager = some text; message = e .message }) ts success else goesOn e ts (answerOf BadText))
             (if b then staying (record { stage = k .stage; pager = overlay text noDigits; digits = length text; length = k .length }) Success n else staying k BadText n) array buffer buffer
         go true =
             let stage = ap (λ x. x .stage) (sym own) in
             let held = ap (λ x. x .message) (sym own) in
             let count = ap (λ x. x .length) (sym own) in
-            does-moves (keeps (settings .longest) pagers transactions (record { pager = some text; message = e .message }) ts success) refl
+            does-moves (goesOn (record { pager = some text; message = e .message }) ts success) refl
             (λ i. record { stage = stage i; pager = overlay text noDigits; digits = length text; message = held i; length = count i }) refl refl
         go false = does-keeps BadText
 
     -- MESS with a wrong text
-    message-wrong : (text : List ℕ) → all printable text ≡ false → reactsIn settings pagers k array buffer n (some (message text)) ≡ keeps (settings .longest) pagers transactions e ts badText
+    message-wrong : (text : List ℕ) → all printable text ≡ false → reactsIn settings pagers k array buffer n (some (message text)) ≡ goesOn e ts badText
     message-wrong text p = reacts-follows (some (message text)) ∙ rw p
 
     -- with a right one
     message-right : (text : List ℕ) (o : Option (List ℕ)) → all printable text ≡ true → e .message ≡ o →
-        reactsIn settings pagers k array buffer n (some (message text)) ≡ takesMessage (settings .longest) pagers transactions e ts text o
-    message-right text o p m = reacts-follows (some (message text)) ∙ rw p (ap (takesMessage (settings .longest) pagers transactions e ts text) m)
+        reactsIn settings pagers k array buffer n (some (message text)) ≡ holdsMessage e ts text o
+    message-right text o p m = reacts-follows (some (message text)) ∙ rw p (ap (holdsMessage e ts text) m)
 
     -- MESS
     pub does-message : (text : List ℕ) {r : Reacted} {array′ : List ℕ} → Enters k text n r array array′ → Does (reactsIn settings pagers k array buffer n (some (message text))) r array′ buffer buffer
@@ -136,12 +135,12 @@ module _ (settings : Settings) (pagers : List ℕ) (k : Control) (array buffer :
             let digits = ap (λ x. x .digits) (sym own) in
             let laid = ap (overlay text) blank in
             rw (message-right text none p held, w .reacted, w .laid, p, first)
-            (does-moves (keeps (settings .longest) pagers transactions (record { pager = e .pager; message = some text }) ts success) refl
+            (does-moves (goesOn (record { pager = e .pager; message = some text }) ts success) refl
             (λ i. record { stage = Entered; pager = pager i; digits = digits i; message = laid i; length = length text }) refl refl)
 
     -- RESE
     pub does-reset : Does (reactsIn settings pagers k array buffer n (some reset)) (emptied Open Success n) noText buffer buffer
-    does-reset = rw (reacts-follows (some reset)) (does-moves (keeps (settings .longest) pagers transactions empty ts success) refl (blank-saved Open (ongoing empty) (inl (refl, refl))) refl refl)
+    does-reset = rw (reacts-follows (some reset)) (does-moves (goesOn empty ts success) refl (blank-saved Open (ongoing empty) (inl (refl, refl))) refl refl)
 
     -- QUIT
     pub does-quit : Does (reactsIn settings pagers k array buffer n (some quit)) (emptied Closed Goodbye n) noText buffer buffer
@@ -154,7 +153,7 @@ module _ (settings : Settings) (pagers : List ℕ) (k : Control) (array buffer :
     reacts-sends p m f g = reacts-follows (some send) ∙ ap (λ x. sends (settings .longest) pagers transactions e ts x (e .message)) f ∙ ap (sends (settings .longest) pagers transactions e ts p) g
 
     -- without a message
-    without-message : (p : Option (List ℕ)) → sends (settings .longest) pagers transactions e ts p none ≡ keeps (settings .longest) pagers transactions e ts order
+    without-message : (p : Option (List ℕ)) → sends (settings .longest) pagers transactions e ts p none ≡ goesOn e ts order
     without-message none = refl
     without-message (some p) = refl
 
@@ -163,7 +162,7 @@ module _ (settings : Settings) (pagers : List ℕ) (k : Control) (array buffer :
     does-order missing = rw (incomplete (k .stage) refl missing) (does-keeps Order)
       where
         incomplete : (stage : Stage) → k .stage ≡ stage → not (isEntered stage) || eqb (k .digits) 0 ≡ true →
-            reactsIn settings pagers k array buffer n (some send) ≡ keeps (settings .longest) pagers transactions e ts order
+            reactsIn settings pagers k array buffer n (some send) ≡ goesOn e ts order
         incomplete Open f m = reacts-sends (e .pager) none refl (ap (λ x. messageAt x (textIn s)) f) ∙ without-message (e .pager)
         incomplete Entered f m = reacts-sends none (e .message) (rw m) refl
         incomplete Closed f m = absurd (false≢true (sym going ∙ ap isClosed f))
@@ -193,7 +192,7 @@ module _ (settings : Settings) (pagers : List ℕ) (k : Control) (array buffer :
         where
           go : (b : Bool) → admittedAs a ≡ done (if b then some (sizeOf (withPage buffer n pager text)) else none) →
               buffer′ ≡ storedIn (done (if b then withPage buffer n pager text else ts)) buffer →
-              Does (if b then keeps (settings .longest) pagers transactions empty (withPage buffer n pager text) success else keeps (settings .longest) pagers transactions empty ts failed) (emptied Open Success size) noText buffer buffer′
+              Does (if b then goesOn empty (withPage buffer n pager text) success else goesOn empty ts failed) (emptied Open Success size) noText buffer buffer′
           go true f l =
               let long : size ≡ sizeOf (withPage buffer n pager text) = cc (stored, f) in
               record { answers = refl; state = blank-saved Open (ongoing empty) (inl (refl, refl)); counts = long; stored = l }
@@ -206,6 +205,6 @@ module _ (settings : Settings) (pagers : List ℕ) (k : Control) (array buffer :
         where
           go : (b : Bool) → admittedAs a ≡ done (if b then some (sizeOf (withPage buffer n pager text)) else none) →
               buffer′ ≡ storedIn (done (if b then withPage buffer n pager text else ts)) buffer →
-              Does (if b then keeps (settings .longest) pagers transactions empty (withPage buffer n pager text) success else keeps (settings .longest) pagers transactions empty ts failed) (emptied Open Failed n) noText buffer buffer′
+              Does (if b then goesOn empty (withPage buffer n pager text) success else goesOn empty ts failed) (emptied Open Failed n) noText buffer buffer′
           go true f l = let z : _≡_ {A = ℕ} 0 1 = cc (rejected, f) in absurd (omega arith)
           go false f l = record { answers = refl; state = blank-saved Open (ongoing empty) (inl (refl, refl)); counts = sym (read-size buffer n ts bytes (ready .journal)); stored = l }

@@ -5,32 +5,32 @@ use mathlib.Core.Option.{none, some}
 use mathlib.Core.Path.{_≡_, refl, sym, ap, subst, _∙_}
 use Prim.Native.Nat.{ℕ, _+_, _≤_}
 use native.Mathlib.Omega.{arith}
-use borrow.Author.Tests.{eqb-true, eq-eqb, ne-eqb, le-leb, leb-true, not-false}
+use borrow.Author.Tests.{eqb-true, le-leb, leb-true}
 use lib.Dec.{eqb, leb, ltb}
 use lib.ListN.{length, drop, length-append}
-use Rattle.line.proofs.AllLaws.{all-append, all-weaken}
+use Rattle.line.proofs.AllLaws.{all-weaken}
 use Rattle.line.proofs.OutcomeLaws.{map-done, passed}
-use Rattle.line.proofs.OverlayLaws.{overlay-length, overlay-start}
+use Rattle.line.proofs.OverlayLaws.{overlay-start}
 use Rattle.line.proofs.TransactionLaws.{legal-parts}
 use Rattle.line.specs.Answer.{done, output}
-use Rattle.line.specs.Character.{CR, LF, byte, printable}
-use Rattle.line.specs.Test.{if_then_else_, all}
+use Rattle.line.specs.Character.{CR, byte, printable}
+use Rattle.line.specs.Test.{all}
 use Rattle.line.specs.Text.{bytesOf}
 use Rattle.line.specs.Transaction.{legal}
 use Rattle.journal.proofs.EncodingLaws.{decode-encode, encode-decode}
 use Rattle.journal.proofs.RecordLaws.{records-length-snoc, encode-length}
-use Rattle.journal.proofs.StorageLaws.{in-within, put-journal, stored-buffer}
+use Rattle.journal.proofs.StorageLaws.{in-within, stored-buffer}
 use Rattle.journal.specs.Encoding.{encode, recordsOf, allLegal, Journal}
 use Rattle.journal.specs.Storage.{transactions, sizeOf, isBuffer, decodeIn, storedIn}
 use Rattle.journal.specs.Walk.{decode}
+use Rattle.admission.proofs.ContentLaws.{printable-other}
 use Rattle.admission.specs.Content.{numberFrom, firstField, fieldCount, listed, isPagerId, isPage, content, admits}
 use Rattle.central.specs.Step.{pagersInRange}
-use Rattle.snpp.specs.Command.{Command, page, message, send, SPACE, Says, pages, messages, sends, recognized}
-use Rattle.snpp.specs.Driver.{Lines, none, next, Gateway, after, Takes, over, line, allListed, noneEmpty, Holding, TakenIn, RoundTrip}
+use Rattle.snpp.specs.Command.{Command, page, message, send, SPACE, Says, pages, messages, sends}
+use Rattle.snpp.specs.Driver.{noReturn, Lines, none, next, Gateway, after, Takes, over, line, allListed, Holding, RoundTrip}
 use Rattle.export.specs.Export.{pageLines, secondField, linesOf, allPages, pagesIn, transactionsOf, writtenOut}
 use Rattle.snpp.specs.Reaction.{Answer, success, Entry, empty, Session, ongoing, Reaction, reacts, pageOf}
-use Rattle.snpp.specs.State.{saved}
-use Rattle.snpp.specs.Step.{settingsInRange, stepped, startState}
+use Rattle.snpp.specs.Step.{settingsInRange, stepped}
 use Rattle.snpp.specs.declared.state.Settings.{Settings}
 use Rattle.snpp.proofs.CommandLaws.{says-recognized, own-letters}
 use Rattle.export.proofs.ExportLaws.{page-parts, pages-read}
@@ -42,7 +42,7 @@ use Rattle.snpp.proofs.StateLaws.{pager-short, eight-digits}
 -- ── A text as lines ──
 
 -- a line without CR is unique: it ends at the first CR
-line-unique : (l k : List ℕ) {t u : List ℕ} → all (λ c. not (eqb c CR)) l ≡ true → all (λ c. not (eqb c CR)) k ≡ true → l ++ CR ∷ t ≡ k ++ CR ∷ u → (l ≡ k) × (t ≡ u)
+line-unique : (l k : List ℕ) {t u : List ℕ} → noReturn l ≡ true → noReturn k ≡ true → l ++ CR ∷ t ≡ k ++ CR ∷ u → (l ≡ k) × (t ≡ u)
 unfolding all
 line-unique [] [] h g e = (refl, cc)
 line-unique [] (d ∷ k) h g e = let q : d ≡ CR = cc in absurd (false≢true (rw q at g))
@@ -71,10 +71,8 @@ linesIn [] = []
 linesIn (t ∷ ts) = linesAlone (firstField t) (secondField t) ++ linesIn ts
 
 -- a printable text has no CR
-no-return : (text : List ℕ) → all printable text ≡ true → all (λ c. not (eqb c CR)) text ≡ true
-no-return = all-weaken λ c h.
-    let (low, _) = and-eq-true-iff (leb 0x20 c) (leb c 0x7E) .0 h in
-    rw (ne-eqb c CR (λ e. omega (arith, leb-true 0x20 c low)))
+no-return : (text : List ℕ) → all printable text ≡ true → noReturn text ≡ true
+no-return = all-weaken λ c h. rw (printable-other c h)
 
 -- the lines of a page, and those behind them
 page-cut : (pager text rest : List ℕ) (lines : List (List ℕ)) → all printable pager ≡ true → all printable text ≡ true → Lines rest lines → Lines (pageLines pager text ++ rest) (linesAlone pager text ++ lines)
@@ -225,8 +223,8 @@ written-parts journal text whole bytes e =
 
 -- the round trip
 pub round-trip : RoundTrip
-round-trip journal text pagers settings g whole room bytes written full named listing longest h roomy =
+round-trip journal text pagers settings g room bytes x =
     let ts = transactionsOf journal in
-    let (encoded, j, every, is) = written-parts journal text whole bytes written in
-    let (g′, h′, taken) = records-taken settings pagers room longest listing roomy ts [] g h j (j .each) every named in
+    let (encoded, j, every, is) = written-parts journal text (x .size) bytes (x .written) in
+    let (g′, h′, taken) = records-taken settings pagers room (x .longest) (x .pagers-right) (x .roomy) ts [] g (x .empty-journal) j (j .each) every (x .pagers-listed) in
     record { lines = linesIn ts; cut = rw is at (lines-cut ts (j .each) every); behind = g′; taken = taken; same = h′ .journal ∙ sym encoded }

@@ -1,12 +1,11 @@
 -- What a line does to the journal: nothing but SEND changes it, SEND is answered with 250 exactly where the page is admitted, and a step leaves a journal that is read again.
-use mathlib.Core.Bool.{Bool, true, false, not, false≢true}
-use mathlib.Core.List.{List, []}
+use mathlib.Core.Bool.{Bool, true, false, not}
+use mathlib.Core.List.{List}
 use mathlib.Core.Option.{Option, none, some}
-use mathlib.Core.Path.{_≡_, refl, sym, ap, _∙_}
+use mathlib.Core.Path.{_≡_, refl}
 use Prim.Native.Nat.{ℕ, _≤_}
 use native.Mathlib.Omega.{arith}
 use lib.ListN.{length}
-use Rattle.line.proofs.OutcomeLaws.{map-done}
 use Rattle.line.specs.Answer.{done}
 use Rattle.line.specs.Character.{byte, printable}
 use Rattle.line.specs.Test.{if_then_else_, all}
@@ -17,7 +16,7 @@ use Rattle.admission.proofs.ContentLaws.{admits-parts}
 use Rattle.admission.specs.Content.{isPagerId, admits}
 use Rattle.central.specs.Inner.{transactionsIn}
 use Rattle.snpp.specs.Command.{Command, page, message, send, reset, quit, recognized}
-use Rattle.snpp.specs.Reaction.{Answer, success, order, badText, failed, Entry, empty, Session, ongoing, closed, Reaction, keeps, takesPager, takesMessage, sends, offers, follows, reacts, pageOf}
+use Rattle.snpp.specs.Reaction.{success, badText, failed, Entry, empty, Session, ongoing, closed, Reaction, goesOn, takesPager, holdsMessage, takesMessage, sends, reacts, pageOf}
 use Rattle.snpp.specs.State.{sessionOf}
 use Rattle.snpp.specs.Step.{stepped}
 use Rattle.snpp.specs.declared.state.Settings.{Settings}
@@ -25,27 +24,29 @@ use Rattle.snpp.specs.declared.state.State.{State}
 use Rattle.snpp.proofs.OfferLaws.{page-legal, pager-printable}
 use Rattle.snpp.proofs.SessionLaws.{SoundPager, a-pager, SoundMessage, a-message, Sound, on, range-sound}
 use Rattle.snpp.proofs.StateLaws.{ranged}
-use Rattle.snpp.proofs.StepLaws.{Passes, stepped-passes}
+use Rattle.snpp.proofs.StepLaws.{stepped-passes}
 
 -- ── The journal by the command ──
 
-module _ {J : Type 0} (most : ℕ) (pagers : List ℕ) (store : Storage J) where
-  -- PAGE and MESS leave it
-  pager-keeps : (e : Entry) (journal : J) (text : List ℕ) → takesPager most pagers store e journal text .journal ≡ journal
+module _ {J : Type 0} where
+  -- PAGE leaves it
+  pager-keeps : (e : Entry) (journal : J) (text : List ℕ) → takesPager e journal text .journal ≡ journal
   pager-keeps e journal text = go (isPagerId text)
     where
-      go : (b : Bool) → (if b then keeps most pagers store (record { pager = some text; message = e .message }) journal success else keeps most pagers store e journal badText) .journal ≡ journal
+      go : (b : Bool) → (if b then goesOn (record { pager = some text; message = e .message }) journal success else goesOn e journal badText) .journal ≡ journal
       go true = refl
       go false = refl
 
-  message-keeps : (e : Entry) (journal : J) (text : List ℕ) → follows most pagers store e journal (some (message text)) .journal ≡ journal
+  -- and so does MESS
+  message-keeps : (e : Entry) (journal : J) (text : List ℕ) → takesMessage e journal text .journal ≡ journal
   message-keeps e journal text = go (all printable text) (e .message)
     where
-      go : (b : Bool) (o : Option (List ℕ)) → (if not b then keeps most pagers store e journal badText else takesMessage most pagers store e journal text o) .journal ≡ journal
+      go : (b : Bool) (o : Option (List ℕ)) → (if not b then goesOn e journal badText else holdsMessage e journal text o) .journal ≡ journal
       go true none = refl
       go true (some earlier) = refl
       go false o = refl
 
+module _ {J : Type 0} (most : ℕ) (pagers : List ℕ) (store : Storage J) where
   -- nothing but SEND changes it
   pub only-send : (x : Session) (journal : J) (c : Option Command) → (c ≡ some send → ⊥) → reacts most pagers store x journal c .journal ≡ journal
   unfolding reacts
@@ -72,8 +73,8 @@ module _ {J : Type 0} (most : ℕ) (pagers : List ℕ) (store : Storage J) where
   sent-stored e journal = go (e .pager) (e .message) refl refl
     where
       decides : (p m : List ℕ) → e .pager ≡ some p → e .message ≡ some m → (b : Bool) → admits most pagers store journal (pageOf p m) ≡ b →
-          (if b then keeps most pagers store empty (store .put journal (pageOf p m)) success else keeps most pagers store empty journal failed) .answer ≡ success →
-          Stored e journal ((if b then keeps most pagers store empty (store .put journal (pageOf p m)) success else keeps most pagers store empty journal failed) .journal)
+          (if b then goesOn empty (store .put journal (pageOf p m)) success else goesOn empty journal failed) .answer ≡ success →
+          Stored e journal ((if b then goesOn empty (store .put journal (pageOf p m)) success else goesOn empty journal failed) .journal)
       decides p m f g true h a = record { pager = p; text = m; page-entered = f; text-entered = g; admitted = h; put = refl }
       decides p m f g false h a = let z : _≡_ {A = ℕ} 0 1 = cc in absurd (omega arith)
 
@@ -97,7 +98,7 @@ stored-journal most pagers ts (some p) none e s t l j = j
 stored-journal most pagers ts (some p) (some m) e (a-pager s) (a-message t short) l j = go (admits most pagers transactions ts (pageOf p m)) refl
   where
     go : (b : Bool) → admits most pagers transactions ts (pageOf p m) ≡ b →
-        Journal ((if b then keeps most pagers transactions empty (transactions .put ts (pageOf p m)) success else keeps most pagers transactions empty ts failed) .journal)
+        Journal ((if b then goesOn empty (transactions .put ts (pageOf p m)) success else goesOn empty ts failed) .journal)
     go true h =
         let (right, room) = admits-parts most pagers transactions ts (pageOf p m) h in
         put-journal ts (pageOf p m) j (page-legal p m (pager-printable p s) t (omega (arith, right .within))) room
@@ -108,8 +109,8 @@ pub reacts-journal : (most : ℕ) (pagers : List ℕ) (x : Session) (ts : List (
 unfolding reacts
 reacts-journal most pagers closed ts c s l j = j
 reacts-journal most pagers (ongoing e) ts none s l j = j
-reacts-journal most pagers (ongoing e) ts (some (page text)) s l j = rw (pager-keeps most pagers transactions e ts text) j
-reacts-journal most pagers (ongoing e) ts (some (message text)) s l j = rw (message-keeps most pagers transactions e ts text) j
+reacts-journal most pagers (ongoing e) ts (some (page text)) s l j = rw (pager-keeps e ts text) j
+reacts-journal most pagers (ongoing e) ts (some (message text)) s l j = rw (message-keeps e ts text) j
 reacts-journal most pagers (ongoing e) ts (some send) (on p m) l j = stored-journal most pagers ts (e .pager) (e .message) e p m l j
 reacts-journal most pagers (ongoing e) ts (some reset) s l j = j
 reacts-journal most pagers (ongoing e) ts (some quit) s l j = j

@@ -1,16 +1,15 @@
 -- Laws of sessions: in which texts can be held, that a reaction keeps them so, and that they are saved and read back.
-use mathlib.Core.Bool.{Bool, true, false, not, _&&_, false≢true, and-eq-true-iff}
-use mathlib.Core.List.{List, [], _∷_, _++_}
+use mathlib.Core.Bool.{Bool, true, false, not, _&&_, and-eq-true-iff}
+use mathlib.Core.List.{List, []}
 use mathlib.Core.Option.{Option, none, some, Option·getD}
-use mathlib.Core.Path.{_≡_, refl, sym, ap, _∙_}
-use Prim.Native.Nat.{ℕ, _+_, _-_, _≤_}
+use mathlib.Core.Path.{_≡_, refl, ap, _∙_}
+use Prim.Native.Nat.{ℕ, _-_, _≤_}
 use native.Mathlib.Omega.{arith}
 use borrow.Author.Tests.{le-leb, leb-true, ne-eqb}
 use lib.Dec.{eqb, leb}
 use lib.ListN.{length, take, drop, replicate, length-replicate}
 use lib.Seq.{take-at, drop-at, length-take-le}
 use Rattle.line.proofs.AllLaws.{all-zeros, zeros-drop}
-use Rattle.line.proofs.OutcomeLaws.{choice}
 use Rattle.line.proofs.OverlayLaws.{overlay-length, overlay-start}
 use Rattle.line.specs.Answer.{overlay}
 use Rattle.line.specs.Character.{printable, digit}
@@ -18,8 +17,8 @@ use Rattle.line.specs.Test.{if_then_else_, all}
 use Rattle.journal.specs.Storage.{Storage}
 use Rattle.admission.specs.Content.{isPagerId, admits}
 use Rattle.snpp.specs.Command.{Command, page, message, send, reset, quit}
-use Rattle.snpp.specs.Reaction.{success, badText, failed, Entry, empty, Session, ongoing, closed, keeps, takesPager, takesMessage, sends, follows, reacts, pageOf}
-use Rattle.snpp.specs.State.{noDigits, noText, stageOf, savedAt, saved, pagerIn, textIn, messageAt, entryIn, isClosed, sessionOf, holds, fits, inRange}
+use Rattle.snpp.specs.Reaction.{success, badText, failed, Entry, empty, Session, ongoing, closed, goesOn, takesPager, holdsMessage, sends, follows, reacts, pageOf}
+use Rattle.snpp.specs.State.{noDigits, noText, stageOf, saved, textIn, messageAt, entryIn, isClosed, sessionOf, holds, fits, inRange}
 use Rattle.snpp.specs.declared.state.Stage.{Stage}
 use Rattle.snpp.specs.declared.state.Stage.the-variants.{Open, Entered, Closed}
 use Rattle.snpp.specs.declared.state.State.{State}
@@ -145,11 +144,11 @@ Short c = (text : List ℕ) → c ≡ some (message text) → length text ≤ 20
 -- a reaction leaves a session that can be
 module _ {J : Type 0} (most : ℕ) (pagers : List ℕ) (store : Storage J) where
   -- PAGE
-  pager-sound : (e : Entry) (journal : J) (text : List ℕ) → Sound (ongoing e) → Sound (takesPager most pagers store e journal text .next)
+  pager-sound : (e : Entry) (journal : J) (text : List ℕ) → Sound (ongoing e) → Sound (takesPager e journal text .next)
   pager-sound e journal text (on p m) = go (isPagerId text) refl
     where
       go : (b : Bool) → isPagerId text ≡ b →
-          Sound ((if b then keeps most pagers store (record { pager = some text; message = e .message }) journal success else keeps most pagers store e journal badText) .next)
+          Sound ((if b then goesOn (record { pager = some text; message = e .message }) journal success else goesOn e journal badText) .next)
       go true h = on (a-pager h) m
       go false h = on p m
 
@@ -157,7 +156,7 @@ module _ {J : Type 0} (most : ℕ) (pagers : List ℕ) (store : Storage J) where
   message-sound : (e : Entry) (journal : J) (text : List ℕ) → Sound (ongoing e) → length text ≤ 2043 → Sound (follows most pagers store e journal (some (message text)) .next)
   message-sound e journal text (on p m) l = go (all printable text) refl (e .message)
     where
-      go : (b : Bool) → all printable text ≡ b → (o : Option (List ℕ)) → Sound ((if not b then keeps most pagers store e journal badText else takesMessage most pagers store e journal text o) .next)
+      go : (b : Bool) → all printable text ≡ b → (o : Option (List ℕ)) → Sound ((if not b then goesOn e journal badText else holdsMessage e journal text o) .next)
       go true h none = on p (a-message h l)
       go true h (some earlier) = on p m
       go false h o = on p m
@@ -168,7 +167,7 @@ module _ {J : Type 0} (most : ℕ) (pagers : List ℕ) (store : Storage J) where
   send-sound e journal (some p) none s = s
   send-sound e journal (some p) (some m) s = go (admits most pagers store journal (pageOf p m))
     where
-      go : (b : Bool) → Sound ((if b then keeps most pagers store empty (store .put journal (pageOf p m)) success else keeps most pagers store empty journal failed) .next)
+      go : (b : Bool) → Sound ((if b then goesOn empty (store .put journal (pageOf p m)) success else goesOn empty journal failed) .next)
       go true = on no-pager no-message
       go false = on no-pager no-message
 

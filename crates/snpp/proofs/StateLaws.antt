@@ -1,20 +1,19 @@
 -- Laws of the saved state: a state in range is that of the session it is, and its parts by themselves.
-use mathlib.Core.Bool.{Bool, true, false, _&&_, false≢true, and-eq-true-iff}
-use mathlib.Core.List.{List, [], _∷_, _++_}
-use mathlib.Core.Option.{Option, none, some, Option·getD}
-use mathlib.Core.Path.{_≡_, refl, sym, ap, _∙_}
+use mathlib.Core.Bool.{Bool, true, false, false≢true, and-eq-true-iff}
+use mathlib.Core.List.{List, []}
+use mathlib.Core.Option.{none, some, Option·getD}
+use mathlib.Core.Path.{_≡_, refl, sym, _∙_}
 use Prim.Native.Nat.{ℕ, _-_, _≤_}
-use native.Mathlib.Omega.{arith}
 use borrow.Author.Tests.{eqb-true, leb-true}
 use lib.Dec.{eqb, leb}
-use lib.ListN.{length, take, drop, replicate, length-drop, length-replicate, take-append-drop}
+use lib.ListN.{length, take, drop, replicate, length-drop, take-append-drop}
 use lib.Seq.{length-take-le}
 use Rattle.line.proofs.AllLaws.{zeros, zeros-drop}
 use Rattle.line.specs.Answer.{overlay}
 use Rattle.line.specs.Character.{printable, digit}
 use Rattle.line.specs.Test.{if_then_else_, all}
 use Rattle.admission.specs.Content.{isPagerId}
-use Rattle.snpp.specs.Reaction.{Entry, Session, ongoing, closed}
+use Rattle.snpp.specs.Reaction.{ongoing, closed}
 use Rattle.snpp.specs.State.{noDigits, noText, stageOf, savedAt, saved, pagerIn, textIn, messageAt, entryIn, isClosed, sessionOf, holds, fits, inRange}
 use Rattle.snpp.specs.declared.state.Stage.{Stage}
 use Rattle.snpp.specs.declared.state.Stage.the-variants.{Open, Entered, Closed}

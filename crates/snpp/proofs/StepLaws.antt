@@ -1,20 +1,20 @@
 -- A step: which case of its definition the tests leave, and what it owes where it is refused and where it is done.
 use mathlib.Core.Bool.{Bool, true, false, not, _&&_, and-eq-true-iff}
 use mathlib.Core.List.{List}
-use mathlib.Core.Path.{_≡_, refl, sym, ap, _∙_}
+use mathlib.Core.Path.{_≡_, ap, _∙_}
 use Prim.Native.Nat.{ℕ, _≤_, _<_}
 use borrow.Author.Tests.{lt-ltb, le-ltb, ltb-false, leb-true, not-false}
 use lib.Dec.{leb, ltb}
 use lib.ListN.{length}
 use Rattle.line.proofs.OutcomeLaws.{then-done, map-done, passed}
 use Rattle.line.proofs.OverlayLaws.{overlay-none}
-use Rattle.line.specs.Answer.{Outcome, done, refused, mapDone, writtenAs, Wrote}
+use Rattle.line.specs.Answer.{Outcome, done, refused, writtenAs, Wrote}
 use Rattle.line.specs.declared.answer.Written.{Written}
 use Rattle.journal.specs.Storage.{transactions, decodeIn, storedIn}
 use Rattle.central.specs.Inner.{Readable, transactionsIn}
 use Rattle.central.specs.Step.{pagersInRange}
 use Rattle.snpp.specs.Command.{recognized}
-use Rattle.snpp.specs.Inner.{Does, Ready, answerOf, reactsIn, stateOf}
+use Rattle.snpp.specs.Inner.{Does, answerOf, reactsIn, stateOf}
 use Rattle.snpp.specs.Reaction.{Reaction, answerText, reacts}
 use Rattle.snpp.specs.State.{inRange, sessionOf}
 use Rattle.snpp.specs.Step.{Steps, settingsInRange, tested, stepped}

@@ -1,5 +1,4 @@
 -- Laws of zeros: an array laid over with them, and how many stand behind a text.
-use mathlib.Core.Bool.{true, and-eq-true-iff}
 use mathlib.Core.List.{List, [], _∷_, map}
 use mathlib.Core.Path.{_≡_, refl, sym, ap, _∙_}
 use Prim.Native.Nat.{ℕ}

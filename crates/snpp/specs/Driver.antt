@@ -19,10 +19,15 @@ use Rattle.snpp.specs.Step.{stepped, startState}
 use Rattle.snpp.specs.declared.state.Settings.{Settings}
 use Rattle.snpp.specs.declared.state.State.{State}
 
+-- no CR is among the bytes
+abbrev pub noReturn : List ℕ → Bool
+noReturn bytes = all (λ c. not (eqb c CR)) bytes
+
 -- a text as lines, their endings off: each has CR LF behind it, and no CR within (R-15.11)
 pub data Lines : List ℕ → List (List ℕ) → Type 0 where
   none : Lines [] []
-  next : {line text : List ℕ} {lines : List (List ℕ)} → all (λ c. not (eqb c CR)) line ≡ true → Lines text lines → Lines (line ++ CR ∷ LF ∷ text) (line ∷ lines)
+  next : {line text : List ℕ} {lines : List (List ℕ)} → noReturn line ≡ true → Lines text lines →
+      Lines (line ++ CR ∷ LF ∷ text) (line ∷ lines)
 
 -- what a driver keeps: the state, and the journal of so many bytes at the start of its buffer
 pub record Gateway : Type 0 where
@@ -44,7 +49,8 @@ pub data Takes (settings : Settings) (pagers : List ℕ) (room : ℕ) : Gateway 
 -- a state to which the start leads: the start itself, and what a step leaves (R-15.8)
 pub data Reached : State → Type 0 where
   begun : Reached startState
-  onward : {s : State} {x : Reaction (List (List ℕ))} → Reached s → (settings : Settings) (pagers buffer : List ℕ) (n : ℕ) (line : List ℕ) (room : ℕ) →
+  onward : {s : State} {x : Reaction (List (List ℕ))} → Reached s →
+      (settings : Settings) (pagers buffer : List ℕ) (n : ℕ) (line : List ℕ) (room : ℕ) →
       stepped s settings pagers buffer n line room ≡ done x → Reached (saved (x .next))
 
 -- ── The round trip ──
@@ -74,10 +80,23 @@ pub record TakenIn (settings : Settings) (pagers : List ℕ) (room : ℕ) (g : G
   pub taken : Takes settings pagers room g lines (map (λ _. success) lines) behind
   pub same : take (behind .length) (behind .buffer) ≡ journal
 
--- a journal that is written out and taken in again, into an empty one, with every pager listed and L at 2,000: it is the same,
--- if no message is empty (R-15.11)
+-- a journal that is written out, and the gateway that is to take it in again
+pub record Exported (journal text pagers : List ℕ) (settings : Settings) (g : Gateway) (room : ℕ) : Type 0 where
+  -- it is written out as this text, into an output of some size
+  pub size : ℕ
+  pub written : writtenOut journal size ≡ done text
+  -- no message is empty. Nothing leans on this as long as the content rules admit an empty one
+  pub messages : noneEmpty (transactionsOf journal) ≡ true
+  -- every pager is listed, and L is 2,000
+  pub pagers-listed : allListed pagers (transactionsOf journal) ≡ true
+  pub pagers-right : pagersInRange pagers ≡ true
+  pub longest : settings .longest ≡ 2000
+  -- the gateway is at its start, over an empty journal, and has room for an answer
+  pub empty-journal : Holding (ongoing empty) [] g
+  pub roomy : 6 ≤ room
+
+-- the round trip: what is written out and taken in again is the same journal (R-15.11)
 abbrev pub RoundTrip : Type 0
 RoundTrip =
-    (journal text pagers : List ℕ) (settings : Settings) (g : Gateway) (whole room : ℕ) → all byte journal ≡ true →
-    writtenOut journal whole ≡ done text → noneEmpty (transactionsOf journal) ≡ true → allListed pagers (transactionsOf journal) ≡ true →
-    pagersInRange pagers ≡ true → settings .longest ≡ 2000 → Holding (ongoing empty) [] g → 6 ≤ room → TakenIn settings pagers room g text journal
+    (journal text pagers : List ℕ) (settings : Settings) (g : Gateway) (room : ℕ) → all byte journal ≡ true →
+    Exported journal text pagers settings g room → TakenIn settings pagers room g text journal

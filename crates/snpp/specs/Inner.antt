@@ -4,7 +4,7 @@ use mathlib.Core.List.{List}
 use mathlib.Core.Option.{Option, none, some}
 use mathlib.Core.Path.{_≡_}
 use Prim.Native.Nat.{ℕ, _≤_}
-use lib.ListN.{length, take}
+use lib.ListN.{length}
 use Rattle.line.specs.Answer.{done, overlay}
 use Rattle.line.specs.Character.{printable}
 use Rattle.line.specs.Test.{if_then_else_, all}
@@ -14,11 +14,10 @@ use Rattle.admission.specs.Content.{isPagerId, admits}
 use Rattle.admission.specs.declared.Admitted.{Admitted}
 use Rattle.central.specs.Inner.{Readable, transactionsIn}
 use Rattle.snpp.specs.Command as Lines
-use Rattle.snpp.specs.Reaction.{Answer, nothing, success, goodbye, unknown, order, badText, failed, answerText, Reaction, reacts, pageOf}
-use Rattle.snpp.specs.State.{noDigits, noText, inRange, saved, sessionOf}
+use Rattle.snpp.specs.Reaction.{Answer, nothing, success, goodbye, unknown, order, badText, failed, Reaction, reacts, pageOf}
+use Rattle.snpp.specs.State.{noDigits, inRange, saved, sessionOf}
 use Rattle.snpp.specs.declared.answer.Answer as Code
 use Rattle.snpp.specs.declared.answer.Answer.the-variants.{Nothing, Success, Goodbye, Unknown, Order, BadText, Failed}
-use Rattle.snpp.specs.declared.answer.Text.{Text}
 use Rattle.snpp.specs.declared.command.Command as Word
 use Rattle.snpp.specs.declared.command.Command.the-variants as word
 use Rattle.snpp.specs.declared.reaction.Reacted.{Reacted}
@@ -46,11 +45,6 @@ answerOf Unknown = unknown
 answerOf Order = order
 answerOf BadText = badText
 answerOf Failed = failed
-
--- a text that is an answer's
-pub record Spells (a : Answer) (t : Text) : Type 0 where
-  pub within : t .length ≤ 6
-  pub text : take (t .length) (t .characters) ≡ answerText a
 
 -- the state that a control and the array of the message are
 abbrev pub stateOf : Control → List ℕ → State
@@ -90,11 +84,13 @@ staying k a n = record { answer = a; control = k; journal = n }
 abbrev pub emptied : Stage → Code.Answer → ℕ → Reacted
 emptied stage a n = staying (record { stage = stage; pager = noDigits; digits = 0; length = 0 }) a n
 
+-- the control with this pager ID
+abbrev pub withPager : Control → List ℕ → Control
+withPager k text = record { stage = k .stage; pager = overlay text noDigits; digits = length text; length = k .length }
+
 -- PAGE with a text
 abbrev pub pagerTaken : Control → List ℕ → ℕ → Reacted
-pagerTaken k text n =
-    if isPagerId text then staying (record { stage = k .stage; pager = overlay text noDigits; digits = length text; length = k .length }) Success n
-    else staying k BadText n
+pagerTaken k text n = if isPagerId text then staying (withPager k text) Success n else staying k BadText n
 
 -- a message may be entered: the text is right, and it is the first
 abbrev pub isFirst : Control → List ℕ → Bool
@@ -118,5 +114,7 @@ withPage buffer n pager text = transactions .put (transactionsIn buffer n) (page
 
 -- a page is offered to that journal: its new length where the page is admitted, and what the buffer holds then
 pub record Offers (most : ℕ) (pagers : List ℕ) (n : ℕ) (pager text : List ℕ) (r : Admitted) (buffer buffer′ : List ℕ) : Type 0 where
-  pub answers : admittedAs r ≡ done (if admitsPage most pagers buffer n pager text then some (sizeOf (withPage buffer n pager text)) else none)
-  pub leaves : buffer′ ≡ storedIn (done (if admitsPage most pagers buffer n pager text then withPage buffer n pager text else transactionsIn buffer n)) buffer
+  pub answers : admittedAs r ≡
+      done (if admitsPage most pagers buffer n pager text then some (sizeOf (withPage buffer n pager text)) else none)
+  pub leaves : buffer′ ≡
+      storedIn (done (if admitsPage most pagers buffer n pager text then withPage buffer n pager text else transactionsIn buffer n)) buffer

@@ -8,7 +8,7 @@ use lib.ListN.{length, take, drop, replicate}
 use Rattle.line.specs.Answer.{overlay}
 use Rattle.line.specs.Character.{printable, digit}
 use Rattle.line.specs.Test.{if_then_else_, all}
-use Rattle.snpp.specs.Reaction.{Entry, empty, Session, ongoing, closed}
+use Rattle.snpp.specs.Reaction.{Entry, Session, ongoing, closed}
 use Rattle.snpp.specs.declared.state.Stage.{Stage}
 use Rattle.snpp.specs.declared.state.Stage.the-variants.{Open, Entered, Closed}
 use Rattle.snpp.specs.declared.state.State.{State}

@@ -1,6 +1,6 @@
 -- One step of the gateway (document 02, wish 6): recognize, react, answer.
 use mathlib.Core.Bool.{Bool, not, _&&_}
-use mathlib.Core.List.{List, []}
+use mathlib.Core.List.{List}
 use mathlib.Core.Path.{_≡_}
 use Prim.Native.Nat.{ℕ}
 use lib.Dec.{leb, ltb}
@@ -47,7 +47,8 @@ lengthBehind n (done x) = sizeOf (x .journal)
 lengthBehind n (refused k) = n
 
 -- what a step owes (R-15.10)
-pub record Steps (o : Outcome (Reaction (List (List ℕ)))) (s : State) (n : ℕ) (r : Stepped) (buffer buffer′ out out′ : List ℕ) : Type 0 where
+pub record Steps (o : Outcome (Reaction (List (List ℕ)))) (s : State) (n : ℕ) (r : Stepped)
+    (buffer buffer′ out out′ : List ℕ) : Type 0 where
   -- the answer's count, or the refusal
   pub answers : writtenAs (r .outcome) ≡ mapDone (λ x. length (answerText (x .answer))) o
   -- the state behind it

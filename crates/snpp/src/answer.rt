@@ -1,33 +1,26 @@
 // What the gateway answers: number, space, CR LF.
 use line::Written;
+use line::character::CR;
+use line::character::LF;
 use line::memory::copy;
+ghost use mathlib.Core.Option.{Option·getD};
+ghost use mathlib.Core.Path.{_≡_};
 ghost use Prim.Native.Nat.{_≤_};
 ghost use lib.ListN.{length};
 ghost use Rattle.line.specs.Answer.{Wrote, copied, done};
-ghost use Rattle.snpp.specs.Inner.{Spells, answerOf};
-ghost use Rattle.snpp.specs.Reaction.{answerText, ready};
+ghost use Rattle.snpp.specs.Inner.{answerOf};
+ghost use Rattle.snpp.specs.Reaction.{answerNumber, answerText, ready};
 
 pub enum Answer {
     // After QUIT.
     Nothing,
-    // 250
     Success,
-    // 221
     Goodbye,
-    // 500
     Unknown,
-    // 503: a message was entered already, or something is missing.
+    // A message was entered already, or something is missing.
     Order,
-    // 550
     BadText,
-    // 554
     Failed,
-}
-
-// The characters of an answer, at the start of the array.
-pub struct Text {
-    pub characters: [u8; 6],
-    pub length: usize,
 }
 
 // The most bytes of an answer.
@@ -47,44 +40,32 @@ pub(crate) fn put_answer(answer: Answer, out: &mut [u8]) -> Written
     requires { ⌜ 6 ≤ length (now out) ⌝ }
     ensures { λ r. ⌜ Wrote (done (answerText (answerOf answer))) r (now (out .entry)) (now (out .exit)) ⌝ }
 {
-    let text = text_of(answer);
-    let characters = text.characters;
-    let length = text.length;
-    copy(&characters[..length], out)
+    let n = number(answer);
+    if n == 0 {
+        return Written::Count(0);
+    }
+    let text = [
+        0x30 + (n / 100) as u8,
+        0x30 + (n / 10 % 10) as u8,
+        0x30 + (n % 10) as u8,
+        b' ',
+        CR,
+        LF,
+    ];
+    copy(&text, out)
 }
 
-// The characters of an answer.
-fn text_of(answer: Answer) -> Text
-    ensures { λ r. ⌜ Spells (answerOf answer) r ⌝ }
+// RFC 1861's number of an answer, and 0 where nothing is answered.
+fn number(answer: Answer) -> usize
+    ensures { λ r. ⌜ r ≡ Option·getD (answerNumber (answerOf answer)) 0 ⌝ }
 {
     match answer {
-        Answer::Nothing => Text {
-            characters: [0; 6],
-            length: 0,
-        },
-        Answer::Success => Text {
-            characters: *b"250 \r\n",
-            length: ANSWER,
-        },
-        Answer::Goodbye => Text {
-            characters: *b"221 \r\n",
-            length: ANSWER,
-        },
-        Answer::Unknown => Text {
-            characters: *b"500 \r\n",
-            length: ANSWER,
-        },
-        Answer::Order => Text {
-            characters: *b"503 \r\n",
-            length: ANSWER,
-        },
-        Answer::BadText => Text {
-            characters: *b"550 \r\n",
-            length: ANSWER,
-        },
-        Answer::Failed => Text {
-            characters: *b"554 \r\n",
-            length: ANSWER,
-        },
+        Answer::Nothing => 0,
+        Answer::Success => 250,
+        Answer::Goodbye => 221,
+        Answer::Unknown => 500,
+        Answer::Order => 503,
+        Answer::BadText => 550,
+        Answer::Failed => 554,
     }
 }

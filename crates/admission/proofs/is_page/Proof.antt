@@ -1,5 +1,5 @@
 -- `is_page` meets its contract: the fields are counted, and the first field is what stands before the first CR.
-use mathlib.Core.Path.{_≡_, sym, ap}
+use mathlib.Core.Path.{_≡_, sym}
 use Prim.Native.Nat.{_≤_}
 use native.Mathlib.Omega.{arith}
 use lib.ListN.{length, take}

@@ -1,9 +1,8 @@
 -- `recognize` meets its contract: the word in capitals, and what stands behind it, decide as in the definition.
-use mathlib.Core.List.{List, [], _∷_, map}
-use mathlib.Core.Path.{_≡_, sym, _∙_}
-use Prim.Native.Nat.{ℕ}
+use mathlib.Core.List.{[], _∷_, map}
+use mathlib.Core.Path.{_≡_, _∙_}
 use native.Mathlib.Omega.{arith}
-use lib.ListN.{length, drop, take}
+use lib.ListN.{drop, take}
 use Rattle.snpp.proofs.CommandLaws.{word-of, recognized-short, recognized-bare, recognized-joined, recognized-spaced}
 use Rattle.snpp.specs.Command.{toCapital}
 use borrow.Author.Needs.{needs}

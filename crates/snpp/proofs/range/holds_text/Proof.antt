@@ -1,6 +1,5 @@
 -- `holds_text` meets its contract: too long a text is not held; else what is there and what stands behind it are tested.
-use mathlib.Core.Path.{_≡_, sym}
-use native.Mathlib.Omega.{arith}
+use mathlib.Core.Path.{sym}
 use borrow.Author.Tests.{lt-leb, le-leb}
 use lib.ListN.{length}
 use lib.Seq.{length-take-le}

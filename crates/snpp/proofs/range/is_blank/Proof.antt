@@ -1,6 +1,6 @@
 -- `is_blank` meets its contract: the answer so far and what the loop has still to test decide together.
 use mathlib.Core.Bool.{_&&_}
-use mathlib.Core.Path.{_≡_, refl, _∙_}
+use mathlib.Core.Path.{_≡_, refl}
 use Prim.Native.Nat.{ℕ, _≤_, _-_}
 use mathlib.Core.Bool.{Bool}
 use native.Mathlib.Omega.{arith}

@@ -1,12 +1,10 @@
 -- `enter_message` meets its contract: a wrong text and a second one change nothing; the first right one is copied.
-use mathlib.Core.Bool.{true, false}
-use mathlib.Core.Path.{_≡_, refl, sym, _∙_}
+use mathlib.Core.Bool.{true}
+use mathlib.Core.Path.{_≡_, sym, _∙_}
 use borrow.Author.Tests.{not-true, not-false}
-use lib.ListN.{length}
 use Rattle.line.proofs.CopyLaws.{copied-laid}
 use Rattle.line.specs.Character.{printable}
 use Rattle.line.specs.Test.{all}
-use Rattle.snpp.specs.Inner.{isEntered}
 use borrow.Author.Needs.{needs}
 use Rattle.snpp.proofs.reaction.enter_message.Statement.{statement}
 use Rattle.snpp.proofs.reaction.enter_message.Tie as tie

@@ -2,7 +2,6 @@
 use mathlib.Core.Bool.{true}
 use mathlib.Core.Path.{_≡_, sym, _∙_}
 use borrow.Author.Tests.{not-true, not-false}
-use lib.ListN.{length}
 use Rattle.line.proofs.CopyLaws.{copied-laid}
 use Rattle.line.specs.Answer.{overlay}
 use Rattle.admission.specs.Content.{isPagerId}

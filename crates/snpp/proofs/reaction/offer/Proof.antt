@@ -1,11 +1,11 @@
 -- `offer` meets its contract: what is over 2,000 characters is not admitted; else pager ID, CR, message and CR, laid one behind the other, are the transaction that is offered.
 use mathlib.Core.Bool.{true}
 use mathlib.Core.List.{List, [], _∷_, _++_}
-use mathlib.Core.Path.{_≡_, refl, sym, ap, _∙_}
-use Prim.Native.Nat.{ℕ, _+_, _-_, _≤_}
+use mathlib.Core.Path.{_≡_, refl, sym, _∙_}
+use Prim.Native.Nat.{ℕ, _+_, _-_}
 use native.Mathlib.Omega.{arith}
 use borrow.Rule.Slice.PartMut.{putMid}
-use lib.ListN.{length, take, replicate, set, length-append, length-replicate, length-set}
+use lib.ListN.{length, replicate, set, length-append, length-replicate}
 use lib.Seq.{length-take-le}
 use Rattle.line.proofs.AllLaws.{all-bytes}
 use Rattle.line.proofs.CopyLaws.{copied-laid, copied-part}

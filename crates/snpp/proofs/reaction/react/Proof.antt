@@ -1,11 +1,8 @@
 -- `react` meets its contract: after QUIT nothing is done; else each command has its function.
 use mathlib.Core.Bool.{true, false}
-use mathlib.Core.List.{List}
-use mathlib.Core.Option.{Option}
 use mathlib.Core.Path.{_≡_, refl, sym, ap, _∙_}
-use Prim.Native.Nat.{ℕ, _≤_}
 use native.Mathlib.Omega.{arith}
-use lib.ListN.{length, take, drop}
+use lib.ListN.{length, drop}
 use Rattle.line.proofs.AllLaws.{all-bytes}
 use Rattle.line.proofs.ListLaws.{rest-all}
 use Rattle.line.specs.Character.{byte}
@@ -13,7 +10,7 @@ use Rattle.line.specs.Test.{all}
 use Rattle.snpp.proofs.CommandLaws.{text-behind}
 use Rattle.snpp.proofs.ReactionLaws.{does-nothing, does-unknown, does-pager, does-message, does-reset, does-quit}
 use Rattle.snpp.specs.Command.{Command, recognized}
-use Rattle.snpp.specs.Inner.{Does, commandOf, reactsIn}
+use Rattle.snpp.specs.Inner.{commandOf}
 use Rattle.snpp.specs.State.{isClosed}
 use Rattle.snpp.specs.declared.command.Command as Word
 use borrow.Author.Needs.{needs}
