@@ -1,22 +1,22 @@
--- What a line does to the journal: nothing but SEND changes it, SEND is answered with 250 exactly where the page is admitted, and a step leaves a journal that is read again.
-use mathlib.Core.Bool.{Bool, true, false, not}
+-- What a line does to the journal: nothing but SEND changes it, errors change nothing at all, SEND is answered with 250 exactly where the page is admitted, and a step leaves a journal that is read again.
+use mathlib.Core.Bool.{Bool, true, false, not, false≢true}
 use mathlib.Core.List.{List}
 use mathlib.Core.Option.{Option, none, some}
-use mathlib.Core.Path.{_≡_, refl}
+use mathlib.Core.Path.{_≡_, refl, sym, ap, _∙_}
 use Prim.Native.Nat.{ℕ, _≤_}
 use native.Mathlib.Omega.{arith}
 use lib.ListN.{length}
 use Rattle.line.specs.Answer.{done}
 use Rattle.line.specs.Character.{byte, printable}
 use Rattle.line.specs.Test.{if_then_else_, all}
-use Rattle.journal.proofs.StorageLaws.{put-journal, read-buffer, read-journal, stored-read}
+use Rattle.journal.proofs.StorageLaws.{put-journal, read-buffer, read-journal, read-size, stored-own, stored-read}
 use Rattle.journal.specs.Encoding.{Journal}
 use Rattle.journal.specs.Storage.{Storage, transactions, sizeOf, decodeIn, storedIn}
 use Rattle.admission.proofs.ContentLaws.{admits-parts}
 use Rattle.admission.specs.Content.{isPagerId, admits}
 use Rattle.central.specs.Inner.{transactionsIn}
 use Rattle.snpp.specs.Command.{Command, page, message, send, reset, quit, recognized}
-use Rattle.snpp.specs.Reaction.{success, badText, failed, Entry, empty, Session, ongoing, closed, Reaction, goesOn, takesPager, holdsMessage, takesMessage, sends, reacts, pageOf}
+use Rattle.snpp.specs.Reaction.{Answer, nothing, ready, goodbye, unknown, order, success, badText, failed, Entry, empty, Session, ongoing, closed, Reaction, goesOn, takesPager, holdsMessage, takesMessage, sends, reacts, pageOf}
 use Rattle.snpp.specs.State.{sessionOf}
 use Rattle.snpp.specs.Step.{stepped}
 use Rattle.snpp.specs.declared.state.Settings.{Settings}
@@ -27,6 +27,17 @@ use Rattle.snpp.proofs.StateLaws.{ranged}
 use Rattle.snpp.proofs.StepLaws.{stepped-passes}
 
 -- ── The journal by the command ──
+
+-- an answer that tells of an error, or none
+abbrev pub isError : Answer → Bool
+isError nothing = true
+isError ready = false
+isError success = false
+isError goodbye = false
+isError unknown = true
+isError order = true
+isError badText = true
+isError failed = false
 
 module _ {J : Type 0} where
   -- PAGE leaves it
@@ -46,6 +57,25 @@ module _ {J : Type 0} where
       go true (some earlier) = refl
       go false o = refl
 
+  -- PAGE with a bad text
+  pager-error : (e : Entry) (journal : J) (text : List ℕ) → isError (takesPager e journal text .answer) ≡ true → (takesPager e journal text .next ≡ ongoing e) × (takesPager e journal text .journal ≡ journal)
+  pager-error e journal text = go (isPagerId text)
+    where
+      go : (b : Bool) → let x = if b then goesOn (record { pager = some text; message = e .message }) journal success else goesOn e journal badText in
+          isError (x .answer) ≡ true → (x .next ≡ ongoing e) × (x .journal ≡ journal)
+      go true f = absurd (false≢true f)
+      go false f = (refl, refl)
+
+  -- MESS with one, or a second one
+  message-error : (e : Entry) (journal : J) (text : List ℕ) → isError (takesMessage e journal text .answer) ≡ true → (takesMessage e journal text .next ≡ ongoing e) × (takesMessage e journal text .journal ≡ journal)
+  message-error e journal text = go (all printable text) (e .message)
+    where
+      go : (b : Bool) (o : Option (List ℕ)) → let x = if not b then goesOn e journal badText else holdsMessage e journal text o in
+          isError (x .answer) ≡ true → (x .next ≡ ongoing e) × (x .journal ≡ journal)
+      go true none f = absurd (false≢true f)
+      go true (some earlier) f = (refl, refl)
+      go false o f = (refl, refl)
+
 module _ {J : Type 0} (most : ℕ) (pagers : List ℕ) (store : Storage J) where
   -- nothing but SEND changes it
   pub only-send : (x : Session) (journal : J) (c : Option Command) → (c ≡ some send → ⊥) → reacts most pagers store x journal c .journal ≡ journal
@@ -57,6 +87,27 @@ module _ {J : Type 0} (most : ℕ) (pagers : List ℕ) (store : Storage J) where
   only-send (ongoing e) journal (some send) other = absurd (other refl)
   only-send (ongoing e) journal (some reset) other = refl
   only-send (ongoing e) journal (some quit) other = refl
+
+  -- what is answered with 500, 503 or 550, or not at all, changes nothing
+  pub error-keeps : (x : Session) (journal : J) (c : Option Command) → isError (reacts most pagers store x journal c .answer) ≡ true →
+      (reacts most pagers store x journal c .next ≡ x) × (reacts most pagers store x journal c .journal ≡ journal)
+  unfolding reacts
+  error-keeps closed journal c e = (refl, refl)
+  error-keeps (ongoing x) journal none e = (refl, refl)
+  error-keeps (ongoing x) journal (some (page text)) e = pager-error x journal text e
+  error-keeps (ongoing x) journal (some (message text)) e = message-error x journal text e
+  error-keeps (ongoing x) journal (some send) e = go (x .pager) (x .message) e
+    where
+      decides : (t : List ℕ) (b : Bool) → isError ((if b then goesOn empty (store .put journal t) success else goesOn empty journal failed) .answer) ≡ true → ⊥
+      decides t true e = false≢true e
+      decides t false e = false≢true e
+
+      go : (p m : Option (List ℕ)) → isError (sends most pagers store x journal p m .answer) ≡ true → (sends most pagers store x journal p m .next ≡ ongoing x) × (sends most pagers store x journal p m .journal ≡ journal)
+      go none m e = (refl, refl)
+      go (some p) none e = (refl, refl)
+      go (some p) (some m) e = absurd (decides (pageOf p m) (admits most pagers store journal (pageOf p m)) e)
+  error-keeps (ongoing x) journal (some reset) e = absurd (false≢true e)
+  error-keeps (ongoing x) journal (some quit) e = absurd (false≢true e)
 
   -- a page is there, the journal admits it, and the next one is the old one and this page
   pub record Stored (e : Entry) (journal after : J) : Type 0 where
@@ -124,3 +175,12 @@ step-keeps s settings pagers buffer n line room x bytes eight long e =
     let sound = range-sound s (ranged s (p .range)) eight long in
     let j = reacts-journal (settings .longest) pagers (sessionOf s) (transactionsIn buffer n) (recognized line) sound (p .longest) (read-journal buffer n (transactionsIn buffer n) bytes (p .journal)) in
     rw (← is) (j, stored-read buffer _ (read-buffer buffer n (transactionsIn buffer n) bytes (p .journal)) j)
+
+-- a step on a line that does not say SEND leaves the journal and its buffer as they were
+pub step-only-send : (s : State) (settings : Settings) (pagers buffer : List ℕ) (n : ℕ) (line : List ℕ) (room : ℕ) (x : Reaction (List (List ℕ))) →
+    all byte buffer ≡ true → stepped s settings pagers buffer n line room ≡ done x → (recognized line ≡ some send → ⊥) →
+    (sizeOf (x .journal) ≡ n) × (storedIn (done (x .journal)) buffer ≡ buffer)
+step-only-send s settings pagers buffer n line room x bytes e other =
+    let (p, is) = stepped-passes s settings pagers buffer n line room x e in
+    let kept : x .journal ≡ transactionsIn buffer n = ap (λ y. y .journal) (sym is) ∙ only-send (settings .longest) pagers transactions (sessionOf s) (transactionsIn buffer n) (recognized line) other in
+    rw kept (read-size buffer n (transactionsIn buffer n) bytes (p .journal), stored-own buffer n (transactionsIn buffer n) bytes (p .journal))
