@@ -259,6 +259,48 @@ static void framer_call(const char *name, int feeds, framer *s, const uint8_t *b
     count = a.count;
 }
 
+// A state of the gateway, kept like the framer's.
+typedef SIDE(snpp_state) gateway;
+
+static void gateway_start(gateway *s) {
+#ifdef PRODUCT
+    *s = tyntolai_snpp_start();
+#else
+    twin_snpp_start(s);
+#endif
+}
+
+static SIDE(answer) take_line(gateway *s, size_t longest, const uint32_t *pagers, size_t pager_count, uint8_t *journal,
+                              size_t size, size_t *length, const uint8_t *line, size_t n, size_t room) {
+    SIDE(snpp_settings) settings = {longest};
+#ifdef PRODUCT
+    tyntolai_snpp_stepped r =
+        tyntolai_snpp_step(*s, settings, pagers, pager_count, journal, size, *length, line, n, out, room);
+    *s = r.state;
+    *length = r.journal;
+    return r.answer;
+#else
+    return twin_snpp_step(s, &settings, pagers, pager_count, journal, size, length, line, n, out, room);
+#endif
+}
+
+static void gateway_step(const char *name, gateway *s, size_t longest, const uint32_t *pagers, size_t pager_count,
+                         uint8_t *journal, size_t size, size_t *length, const uint8_t *line, size_t n, size_t room) {
+    MEASURED(name, SIDE(answer) a = take_line(s, longest, pagers, pager_count, journal, size, length, line, n, room))
+    mix_answer(a.code, a.count);
+    mix_number(s->stage);
+    mix(s->pager, sizeof s->pager);
+    mix_number(s->digits);
+    mix(s->message, sizeof s->message);
+    mix_number(s->length);
+    mix_number(*length);
+    mix(journal, BUFFER);
+    mix(out, 16);
+    report(name, a.code, a.count);
+    code = a.code;
+    count = a.count;
+}
+
 static void run(const char *name, const uint8_t *job, size_t n, const twin_device_settings *d,
                 const twin_central_settings *c, const uint32_t *pagers, size_t pager_count, uint8_t *journal,
                 size_t size, size_t length, const uint8_t *faults, size_t fault_count, uint8_t *verdicts,
@@ -342,7 +384,7 @@ static const twin_device_settings device = {{"SECRET", 6}, 2, TWIN_FILLED, TWIN_
 static const twin_device_settings whole_device = {{"SECRET", 6}, 2, TWIN_WHOLE_FIELDS, TWIN_EARLY};
 static const twin_central_settings central = {{"SECRET", 6}, 2000, 2};
 static uint32_t pagers[1000];
-static uint8_t journal[BUFFER], job[BUFFER], verdicts[64];
+static uint8_t journal[BUFFER], job[BUFFER], verdicts[64], lines[TWIN_LINES + 4];
 
 // ---- the table
 
@@ -539,6 +581,40 @@ static void measure_runs(void) {
     static const size_t jobs[][2] = {{1, 40}, {4, 40}, {16, 40}, {64, 40}, {1, 1998}, {4, 1998}, {16, 1998}};
     for (int i = 0; i < 7; i++) measure_run("clean", &device, jobs[i][0], jobs[i][1]);
     measure_run("clean, whole fields", &whole_device, 16, 254); // two blocks each, of 4 and 250
+}
+
+// A line of a client that has entered the pager ID 123 and so many characters, over a journal.
+static void measure_line(const char *what, size_t message, const char *word, size_t text, size_t records,
+                         size_t length) {
+    gateway s;
+    uint8_t line[TWIN_LINE];
+    size_t n = strlen(word), m = make_journal(journal, records, length);
+    gateway_start(&s);
+    if (message > 0) {
+        s.stage = TWIN_SNPP_ENTERED;
+        memcpy(s.pager, "123", s.digits = 3);
+        memset(s.message, 'A', s.length = message);
+    }
+    memcpy(line, word, n);
+    memset(line + n, 'A', text);
+    gateway_step(TITLE("gateway step, %s, journal %zu x %zu", what, records, length), &s, 2000, pagers + 999, 1,
+                 journal, BUFFER, &m, line, n + text, 6);
+}
+
+static void measure_gateways(void) {
+    ANSWERED("gateway greeting", SIDE(snpp_greeting)(out, 6), out, 16);
+    measure_line("PAGE of 8", 0, "PAGE 12345678", 0, 0, 80);
+    measure_line("MESS of 80", 0, "MESS ", 80, 0, 80);
+    measure_line("MESS of 2043", 0, "MESS ", 2043, 0, 80);
+    measure_line("SEND of 80", 80, "SEND", 0, 0, 80);
+    measure_line("SEND of 80", 80, "SEND", 0, 63, 80);
+    measure_line("not understood", 0, "HELP", 0, 0, 80);
+    measure_line("not understood", 0, "HELP", 0, 64, 498);
+    for (size_t k = 1; k <= 64; k += 63) {
+        size_t n = make_journal(journal, k, 480);
+        ANSWERED(TITLE("write out, journal %zu x 480", k), SIDE(write_out)(journal, n, lines, TWIN_LINES), lines,
+                 sizeof lines);
+    }
 }
 
 // ---- random calls
@@ -745,6 +821,38 @@ static framer any_framer(void) {
     return s;
 }
 
+// A line of a gateway's client, its ending off; below 2,100 bytes.
+static size_t any_line(uint8_t *to) {
+    static const char *words[] = {"PAGE ", "page ", "PaGe 123", "PAGE 00000123", "page 123456789", "MESS ", "mess ",
+                                  "MEss ", "SEND", "send", "sEnD", "SEND", "RESE", "rese", "QUIT", "quit", "PAGE",
+                                  "MESS", "SEND ", "RES", "PAGE123", "LOGI me", ""};
+    size_t k = below(6) == 0 ? below(23) : below(2) ? 8 + below(4) : below(8), n = put_text(to, words[k]);
+    size_t rest = 0;
+    if (k < 5) rest = below(3) ? 0 : below(10);
+    else if (k < 8) rest = below(3) ? below(100) : below(2) ? below(2043) : 2035 + below(14);
+    for (size_t i = 0; i < rest; i++) to[n++] = (uint8_t)(k < 5 ? '0' + below(10) : 0x20 + below(0x5F));
+    if (n > 0 && rarely()) to[below(n)] = (uint8_t)below(256);
+    if (n > 0 && rarely()) to[below(n)] ^= 0x20;
+    if (rarely() && rarely())
+        for (size_t most = 2046 + below(5); n < most; n++) to[n] = 'x';
+    return n;
+}
+
+// What a gateway may keep of a session, or nearly.
+static void any_gateway(gateway *s) {
+    gateway_start(s);
+    s->stage = (uint8_t)(rarely() ? below(5) : below(5) ? below(2) : TWIN_SNPP_CLOSED);
+    s->digits = s->stage == TWIN_SNPP_CLOSED && !rarely() ? 0 : below(3) ? 3 : below(9);
+    s->length = s->stage != TWIN_SNPP_ENTERED && !rarely() ? 0 : below(3) ? below(200) : below(4) ? below(2044) : 2043;
+    memset(s->pager, '0' + (int)below(10), s->digits);
+    if (s->digits >= 3) memcpy(s->pager + s->digits - 3, "123", 3);
+    for (size_t i = 0; i < s->length; i++) s->message[i] = (uint8_t)(0x20 + below(0x5F));
+    if (rarely()) s->message[below(2043)] = (uint8_t)below(256);
+    if (rarely()) s->pager[below(8)] = (uint8_t)below(256);
+    if (rarely() && rarely()) s->digits = below(2) ? below(12) : (size_t)0 - 1 - below(3);
+    if (rarely() && rarely()) s->length = below(2) ? below(2100) : (size_t)0 - 1 - below(3);
+}
+
 static uint64_t seen[10];
 
 static void summed(const char *name) {
@@ -923,6 +1031,30 @@ static void random_runs(size_t calls) {
     summed("run");
 }
 
+static void random_gateways(size_t calls) {
+    static gateway s;
+    uint8_t line[2100];
+    size_t length = 0;
+    for (size_t i = 0; i < calls; i++, seen[code]++)
+        ANSWERED(NULL, SIDE(snpp_greeting)(out, any_room(6)), out, 16);
+    summed("gateway greeting");
+    for (size_t i = 0; i < calls; i++, seen[code]++) {
+        if (i % 8 == 0 || code != 0) {
+            length = any_journal(journal, below(2) ? 4 : 66, below(2) ? 60 : 2000);
+            any_gateway(&s);
+        }
+        size_t longest = below(3) ? 2000 : below(2003), pager_count = any_pagers();
+        size_t size = rarely() && rarely() ? BUFFER - 1 : BUFFER, n = any_line(line), room = any_room(6);
+        gateway_step(NULL, &s, longest, pagers, pager_count, journal, size, &length, line, n, room);
+    }
+    summed("gateway step");
+    for (size_t i = 0; i < calls; i++, seen[code]++) {
+        size_t n = any_journal(journal, below(2) ? 4 : 66, below(2) ? 60 : 2000), room = any_room(TWIN_LINES);
+        ANSWERED(NULL, SIDE(write_out)(journal, n > BUFFER ? BUFFER : n, lines, room), lines, sizeof lines);
+    }
+    summed("write out");
+}
+
 int main(int words, char **word) {
     for (size_t i = 0; i < 1000; i++) pagers[i] = (uint32_t)(99999 - i);
     pagers[999] = 123;
@@ -935,6 +1067,7 @@ int main(int words, char **word) {
         random_centrals(calls);
         random_devices(calls);
         random_runs(calls / 10);
+        random_gateways(calls);
         return 0;
     }
     measure_characters();
@@ -944,5 +1077,6 @@ int main(int words, char **word) {
     measure_centrals();
     measure_devices();
     measure_runs();
+    measure_gateways();
     return 0;
 }

@@ -491,20 +491,27 @@ static twin_answer drop(twin_central *s, uint8_t *out) {
     return SAY("\r\x1E\r", out);
 }
 
-// Two fields, the first 1 to 8 digits whose number is listed.
-static int admitted(const uint8_t *t, size_t n, const uint32_t *pagers, size_t pager_count) {
+// The number of a page: two fields, the first 1 to 8 digits. Or -1.
+static int32_t page_number(const uint8_t *t, size_t n) {
     const uint8_t *end = memchr(t, CR, n);
-    if (end == NULL || end == t + n - 1) return 0;
-    if (memchr(end + 1, CR, n - (size_t)(end + 1 - t)) != t + n - 1) return 0;
+    if (end == NULL || end == t + n - 1) return -1;
+    if (memchr(end + 1, CR, n - (size_t)(end + 1 - t)) != t + n - 1) return -1;
     size_t digits = (size_t)(end - t);
-    uint32_t number = 0;
-    if (digits < 1 || digits > 8) return 0;
+    int32_t number = 0;
+    if (digits < 1 || digits > 8) return -1;
     for (size_t i = 0; i < digits; i++) {
-        if (!digit(t[i])) return 0;
+        if (!digit(t[i])) return -1;
         number = number * 10 + (t[i] - '0');
     }
+    return number;
+}
+
+// A page whose number is listed.
+static int admitted(const uint8_t *t, size_t n, const uint32_t *pagers, size_t pager_count) {
+    int32_t number = page_number(t, n);
+    if (number < 0) return 0;
     for (size_t i = 0; i < pager_count; i++)
-        if (pagers[i] == number) return 1;
+        if (pagers[i] == (uint32_t)number) return 1;
     return 0;
 }
 
@@ -798,4 +805,147 @@ twin_totals twin_run(const uint8_t *job, size_t n, const twin_device_settings *d
     }
     twin_settle(given.standing, verdicts, verdict_count);
     return (twin_totals){sent, c.journal, 0};
+}
+
+// ---- the gateway
+
+static int all_printable(const uint8_t *p, size_t n) {
+    for (size_t i = 0; i < n; i++)
+        if (!printable(p[i])) return 0;
+    return 1;
+}
+
+static int all_digits(const uint8_t *p, size_t n) {
+    for (size_t i = 0; i < n; i++)
+        if (!digit(p[i])) return 0;
+    return 1;
+}
+
+static int all_zero(const uint8_t *p, size_t n) {
+    for (size_t i = 0; i < n; i++)
+        if (p[i]) return 0;
+    return 1;
+}
+
+static int snpp_in_range(const twin_snpp_state *s) {
+    if (s->stage > TWIN_SNPP_CLOSED || s->digits > sizeof s->pager || s->length > sizeof s->message) return 0;
+    if (s->stage != TWIN_SNPP_ENTERED && s->length != 0) return 0;
+    if (s->stage == TWIN_SNPP_CLOSED && s->digits != 0) return 0;
+    return all_digits(s->pager, s->digits) && all_zero(s->pager + s->digits, sizeof s->pager - s->digits) &&
+           all_printable(s->message, s->length) && all_zero(s->message + s->length, sizeof s->message - s->length);
+}
+
+void twin_snpp_start(twin_snpp_state *state) { memset(state, 0, sizeof *state); }
+
+static twin_answer tell(const char *number, uint8_t *out) {
+    memcpy(out, number, 3);
+    memcpy(out + 3, " \r\n", 3);
+    return done(6);
+}
+
+twin_answer twin_snpp_greeting(uint8_t *out, size_t room) { return room < 6 ? refused(1) : tell("220", out); }
+
+// The word, which is in small letters, stands there in letters of any case.
+static int is_word(const uint8_t *line, const char *word) {
+    for (int i = 0; i < 4; i++)
+        if ((line[i] | 0x20) != word[i]) return 0;
+    return 1;
+}
+
+static void forget(twin_snpp_state *s, uint8_t stage) {
+    memset(s, 0, sizeof *s);
+    s->stage = stage;
+}
+
+static twin_answer enter_pager(twin_snpp_state *s, const uint8_t *text, size_t n, uint8_t *out) {
+    if (n < 1 || n > sizeof s->pager || !all_digits(text, n)) return tell("550", out);
+    memset(s->pager, 0, sizeof s->pager);
+    memcpy(s->pager, text, n);
+    s->digits = n;
+    return tell("250", out);
+}
+
+static twin_answer enter_message(twin_snpp_state *s, const uint8_t *text, size_t n, uint8_t *out) {
+    if (!all_printable(text, n)) return tell("550", out);
+    if (s->stage == TWIN_SNPP_ENTERED) return tell("503", out);
+    memcpy(s->message, text, n);
+    s->length = n;
+    s->stage = TWIN_SNPP_ENTERED;
+    return tell("250", out);
+}
+
+// The page as a transaction into the journal; its new length, or 0.
+static size_t offer(const twin_snpp_state *s, size_t longest, const uint32_t *pagers, size_t pager_count,
+                    uint8_t *journal, size_t length) {
+    uint8_t t[MOST];
+    size_t n = s->digits + s->length + 2;
+    if (n > longest) return 0;
+    memcpy(t, s->pager, s->digits);
+    t[s->digits] = CR;
+    memcpy(t + s->digits + 1, s->message, s->length);
+    t[n - 1] = CR;
+    return admitted(t, n, pagers, pager_count) ? extend(journal, length, t, n) : 0;
+}
+
+twin_answer twin_snpp_step(twin_snpp_state *s, const twin_snpp_settings *t, const uint32_t *pagers,
+                           size_t pager_count, uint8_t *journal, size_t size, size_t *length, const uint8_t *line,
+                           size_t n, uint8_t *out, size_t room) {
+    if (t->longest < 3 || t->longest > MOST || !pagers_in_range(pagers, pager_count) || !snpp_in_range(s))
+        return refused(9);
+    if (room < 6) return refused(1);
+    uint8_t wrong = check_in(journal, size, *length);
+    if (wrong) return refused(wrong);
+    if (n > TWIN_LINE) return refused(2);
+    if (s->stage == TWIN_SNPP_CLOSED) return done(0);
+    if (n > 4 && line[4] == ' ') {
+        if (is_word(line, "page")) return enter_pager(s, line + 5, n - 5, out);
+        if (is_word(line, "mess")) return enter_message(s, line + 5, n - 5, out);
+    } else if (n == 4) {
+        if (is_word(line, "send")) {
+            if (s->stage != TWIN_SNPP_ENTERED || s->digits == 0) return tell("503", out);
+            size_t longer = offer(s, t->longest, pagers, pager_count, journal, *length);
+            forget(s, TWIN_SNPP_OPEN);
+            if (longer == 0) return tell("554", out);
+            *length = longer;
+            return tell("250", out);
+        }
+        if (is_word(line, "rese")) {
+            forget(s, TWIN_SNPP_OPEN);
+            return tell("250", out);
+        }
+        if (is_word(line, "quit")) {
+            forget(s, TWIN_SNPP_CLOSED);
+            return tell("221", out);
+        }
+    }
+    return tell("500", out);
+}
+
+static uint8_t *put_text(uint8_t *to, const void *text, size_t n) {
+    memcpy(to, text, n);
+    return to + n;
+}
+
+twin_answer twin_write_out(const uint8_t *journal, size_t n, uint8_t *out, size_t room) {
+    part records[RECORDS];
+    uint8_t *to = out;
+    if (room < TWIN_LINES) return refused(1);
+    twin_answer counted = twin_check_journal(journal, n);
+    if (counted.code) return counted;
+    const uint8_t *end = journal + n - 4;
+    for (size_t i = counted.count; i > 0; i--) {
+        size_t length = number_at(end - 2);
+        end -= length + 2;
+        if (page_number(end, length) < 0) return refused(6);
+        records[i - 1] = (part){end, length};
+    }
+    for (size_t i = 0; i < counted.count; i++) {
+        const uint8_t *info = records[i].info, *field = (const uint8_t *)memchr(info, CR, records[i].length) + 1;
+        to = put_text(to, "PAGE ", 5);
+        to = put_text(to, info, (size_t)(field - 1 - info));
+        to = put_text(to, "\r\nMESS ", 7);
+        to = put_text(to, field, (size_t)(info + records[i].length - 1 - field));
+        to = put_text(to, "\r\nSEND\r\n", 8);
+    }
+    return done((size_t)(to - out));
 }

@@ -85,6 +85,22 @@ typedef struct {
     uint8_t code;
 } twin_totals;
 
+enum { TWIN_LINE = 2048, TWIN_LINES = 33024 };
+
+typedef struct {
+    size_t longest;
+} twin_snpp_settings;
+
+enum { TWIN_SNPP_OPEN, TWIN_SNPP_ENTERED, TWIN_SNPP_CLOSED };
+
+typedef struct {
+    uint8_t stage;
+    uint8_t pager[8];
+    size_t digits;
+    uint8_t message[2043];
+    size_t length;
+} twin_snpp_state;
+
 twin_answer twin_set_parity(const uint8_t *text, size_t n, uint8_t *out, size_t room);
 twin_answer twin_clear_parity(const uint8_t *line, size_t n, uint8_t *out, size_t room);
 uint16_t twin_checksum(const uint8_t *text, size_t n);
@@ -115,4 +131,10 @@ twin_totals twin_run(const uint8_t *job, size_t n, const twin_device_settings *d
                      const twin_central_settings *central, const uint32_t *pagers, size_t pager_count,
                      uint8_t *journal, size_t size, size_t length, const uint8_t *faults,
                      size_t fault_count, uint8_t *verdicts, size_t verdict_count);
+void twin_snpp_start(twin_snpp_state *state);
+twin_answer twin_snpp_greeting(uint8_t *out, size_t room);
+twin_answer twin_snpp_step(twin_snpp_state *state, const twin_snpp_settings *settings, const uint32_t *pagers,
+                           size_t pager_count, uint8_t *journal, size_t size, size_t *length, const uint8_t *line,
+                           size_t n, uint8_t *out, size_t room);
+twin_answer twin_write_out(const uint8_t *journal, size_t n, uint8_t *out, size_t room);
 #endif

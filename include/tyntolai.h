@@ -20,11 +20,14 @@ extern "C" {
 #endif
 
 enum {
-    TYNTOLAI_STRING = 256,   // room for any string of the device
-    TYNTOLAI_BLOCKS = 2090,  // room for all blocks of any transaction
-    TYNTOLAI_ANSWER = 7,     // room for any answer of the central
-    TYNTOLAI_PENDING = 2000, // the central's unfinished information
-    TYNTOLAI_BUFFER = 32004  // the size of a journal's buffer, exactly
+    TYNTOLAI_STRING = 256,     // room for any string of the device
+    TYNTOLAI_BLOCKS = 2090,    // room for all blocks of any transaction
+    TYNTOLAI_ANSWER = 7,       // room for any answer of the central
+    TYNTOLAI_PENDING = 2000,   // the central's unfinished information
+    TYNTOLAI_BUFFER = 32004,   // the size of a journal's buffer, exactly
+    TYNTOLAI_SNPP_LINE = 2048, // the longest line of a gateway's client
+    TYNTOLAI_SNPP_ANSWER = 6,  // room for any answer of the gateway
+    TYNTOLAI_LINES = 33024     // room for any journal written out
 };
 
 // What a call comes to.
@@ -285,6 +288,55 @@ tyntolai_totals tyntolai_run(const uint8_t *job, size_t job_length, tyntolai_dev
                              tyntolai_central_settings central, const uint32_t *pagers, size_t pager_count,
                              uint8_t *journal, size_t size, size_t journal_length, const uint8_t *faults,
                              size_t fault_count, uint8_t *verdicts, size_t verdict_count);
+
+// ---- The gateway: SNPP (RFC 1861, level 1) in front of the journal
+
+// The longest transaction is 3 to 2,000 characters.
+typedef struct {
+    size_t longest;
+} tyntolai_snpp_settings;
+
+// Open: no message has been entered. Entered: one has. Closed: the session is over.
+enum { TYNTOLAI_SNPP_OPEN = 0, TYNTOLAI_SNPP_ENTERED = 1, TYNTOLAI_SNPP_CLOSED = 2 };
+
+// A session between two lines: its stage; the pager ID entered last and how many digits it has (0: none); the
+// message and its length. Zeros stand behind both. The caller keeps a state for each client, and the journal's
+// buffer and length beside them: the length is no part of a state, so that sessions may share a journal.
+typedef struct {
+    uint8_t stage;
+    uint8_t pager[8];
+    size_t digits;
+    uint8_t message[2043];
+    size_t length;
+} tyntolai_snpp_state;
+
+// The state behind the step, and the journal's length behind it.
+typedef struct {
+    tyntolai_answer answer;
+    tyntolai_snpp_state state;
+    size_t journal;
+} tyntolai_snpp_stepped;
+
+// The state before the first line: a record of zeros.
+tyntolai_snpp_state tyntolai_snpp_start(void);
+
+// What a client waits for before its first command, 220: count is 6, and as many bytes go to out
+// (TYNTOLAI_SNPP_ANSWER or more). Refusal 1.
+tyntolai_answer tyntolai_snpp_greeting(uint8_t *out, size_t room);
+
+// A line of at most TYNTOLAI_SNPP_LINE bytes, its ending off: count bytes of answer go to out
+// (TYNTOLAI_SNPP_ANSWER or more), none once the session is over. SEND stores a page in the journal of this
+// length at the start of a buffer of TYNTOLAI_BUFFER bytes; all else leaves the journal. At most 1,000 pager
+// numbers below 100,000,000. Refusals 9 (settings, pager list, state), 1, 7, 2.
+tyntolai_snpp_stepped tyntolai_snpp_step(tyntolai_snpp_state state, tyntolai_snpp_settings settings,
+                                         const uint32_t *pagers, size_t pager_count, uint8_t *journal,
+                                         size_t size, size_t journal_length, const uint8_t *line,
+                                         size_t line_length, uint8_t *out, size_t room);
+
+// A journal lent at its exact length, its records oldest first as the lines PAGE, MESS and SEND, each with CR
+// LF: count bytes go to out (TYNTOLAI_LINES or more). Line by line, the CR LF off, a gateway takes them in
+// again. Refusals 1, 7, 6 (a record that is not two fields, the first 1 to 8 digits).
+tyntolai_answer tyntolai_write_out(const uint8_t *journal, size_t journal_length, uint8_t *out, size_t room);
 
 #ifdef __cplusplus
 }

@@ -1,4 +1,5 @@
 pub mod AnswerLaws
 pub mod RecordLaws
 pub mod FramerLaws
+pub mod GatewayLaws
 mod CallerLaws

@@ -8,3 +8,4 @@ pub mod Centrals
 pub mod Devices
 pub mod Run
 pub mod Framers
+pub mod Gateways

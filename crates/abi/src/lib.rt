@@ -4,6 +4,7 @@ pub mod answer;
 pub mod centrals;
 pub mod devices;
 pub mod framers;
+pub mod gateways;
 pub mod journals;
 pub mod password;
 pub mod remarks;
