@@ -29,8 +29,8 @@ pub enum Admitted {
     Refused(Refusal),
 }
 
-// The most digits of a pager ID.
-pub const DIGITS: usize = 8;
+// The most digits of a pager number.
+const DIGITS: usize = 8;
 
 // The information goes into the journal of this length at the start of the buffer, where content
 // and room admit it. The journal's records were checked before: none is looked at.

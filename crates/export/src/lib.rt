@@ -17,7 +17,6 @@ ghost use mathlib.Core.Path.{_≡_};
 ghost use Prim.Native.Nat.{_+_, _≤_};
 ghost use lib.ListN as ListN;
 ghost use Rattle.line.specs.Answer.{Laid, Wrote, checkedAs, mapDone};
-ghost use Rattle.journal.specs.Cursor.{walkFrom};
 ghost use Rattle.export.specs.Export.{Adds, Exportable, linesOf, pageLines, pagesFrom, pagesIn, transactionsOf, writtenOut};
 
 // The longest answer of any journal.

@@ -1,7 +1,6 @@
 -- What the gateway does, by the functions inside a step: where nothing is entered, where a pager ID or a message is, where a page is sent, and where all is forgotten.
 use mathlib.Core.Bool.{Bool, true, false, not, _||_, false≢true}
 use mathlib.Core.List.{List, []}
-use mathlib.Core.Logic.{_⊎_, inl, inr}
 use mathlib.Core.Option.{Option, none, some, Option·getD}
 use mathlib.Core.Path.{_≡_, refl, sym, ap, _∙_}
 use Prim.Native.Nat.{ℕ}
@@ -20,7 +19,7 @@ use Rattle.admission.specs.declared.Admitted.{Admitted}
 use Rattle.central.specs.Inner.{transactionsIn}
 use Rattle.snpp.specs.Command.{Command, page, message, send, reset, quit}
 use Rattle.snpp.specs.Inner.{answerOf, stateOf, Ready, reactsIn, Does, isEntered, staying, emptied, pagerTaken, Enters, admitsPage, withPage, Offers}
-use Rattle.snpp.specs.Reaction.{nothing, success, goodbye, order, badText, failed, Entry, empty, Session, ongoing, closed, Reaction, goesOn, holdsMessage, sends, offers, follows, reacts, pageOf}
+use Rattle.snpp.specs.Reaction.{nothing, success, goodbye, order, badText, failed, Entry, empty, ongoing, closed, Reaction, goesOn, holdsMessage, sends, offers, follows, reacts, pageOf}
 use Rattle.snpp.specs.State.{noDigits, noText, saved, messageAt, entryIn, isClosed, textIn}
 use Rattle.snpp.specs.declared.answer.Answer as Code
 use Rattle.snpp.specs.declared.answer.Answer.the-variants.{Nothing, Success, Goodbye, Unknown, Order, BadText, Failed}
@@ -32,12 +31,15 @@ use Rattle.snpp.specs.declared.state.Stage.the-variants.{Open, Entered, 
 use Rattle.snpp.specs.declared.state.State.{State}
 use Rattle.snpp.proofs.StateLaws.{Ranged, ranged, range-saved, range-closed}
 
--- nothing entered, as it is saved
-blank-saved : (stage : Stage) (x : Session) → ((stage ≡ Open) × (x ≡ ongoing empty)) ⊎ ((stage ≡ Closed) × (x ≡ closed)) →
-    _≡_ {A = State} (record { stage = stage; pager = noDigits; digits = 0; message = noText; length = 0 }) (saved x)
+-- nothing entered, as it is saved in a session that goes on
+blank-open : _≡_ {A = State} (record { stage = Open; pager = noDigits; digits = 0; message = noText; length = 0 }) (saved (ongoing empty))
 unfolding overlay
-blank-saved stage x (inl (a, b)) = rw (a, b)
-blank-saved stage x (inr (a, b)) = rw (a, b)
+blank-open = refl
+
+-- and in one that is over
+blank-closed : _≡_ {A = State} (record { stage = Closed; pager = noDigits; digits = 0; message = noText; length = 0 }) (saved closed)
+unfolding overlay
+blank-closed = refl
 
 -- what has passed the tests of a step, over a buffer of bytes
 module _ (settings : Settings) (pagers : List ℕ) (k : Control) (array buffer : List ℕ) (n : ℕ) (bytes : all byte buffer ≡ true) (ready : Ready settings k array buffer n) where
@@ -140,11 +142,11 @@ module _ (settings : Settings) (pagers : List ℕ) (k : Control) (array buffer :
 
     -- RESE
     pub does-reset : Does (reactsIn settings pagers k array buffer n (some reset)) (emptied Open Success n) noText buffer buffer
-    does-reset = rw (reacts-follows (some reset)) (does-moves (goesOn empty ts success) refl (blank-saved Open (ongoing empty) (inl (refl, refl))) refl refl)
+    does-reset = rw (reacts-follows (some reset)) (does-moves (goesOn empty ts success) refl blank-open refl refl)
 
     -- QUIT
     pub does-quit : Does (reactsIn settings pagers k array buffer n (some quit)) (emptied Closed Goodbye n) noText buffer buffer
-    does-quit = rw (reacts-follows (some quit)) (does-moves (record { next = closed; journal = ts; answer = goodbye }) refl (blank-saved Closed closed (inr (refl, refl))) refl refl)
+    does-quit = rw (reacts-follows (some quit)) (does-moves (record { next = closed; journal = ts; answer = goodbye }) refl blank-closed refl refl)
 
     -- ── SEND ──
 
@@ -195,7 +197,7 @@ module _ (settings : Settings) (pagers : List ℕ) (k : Control) (array buffer :
               Does (if b then goesOn empty (withPage buffer n pager text) success else goesOn empty ts failed) (emptied Open Success size) noText buffer buffer′
           go true f l =
               let long : size ≡ sizeOf (withPage buffer n pager text) = cc (stored, f) in
-              record { answers = refl; state = blank-saved Open (ongoing empty) (inl (refl, refl)); counts = long; stored = l }
+              record { answers = refl; state = blank-open; counts = long; stored = l }
           go false f l = let z : _≡_ {A = ℕ} 0 1 = cc (stored, f) in absurd (omega arith)
 
       -- it is not, and both are forgotten
@@ -207,4 +209,4 @@ module _ (settings : Settings) (pagers : List ℕ) (k : Control) (array buffer :
               buffer′ ≡ storedIn (done (if b then withPage buffer n pager text else ts)) buffer →
               Does (if b then goesOn empty (withPage buffer n pager text) success else goesOn empty ts failed) (emptied Open Failed n) noText buffer buffer′
           go true f l = let z : _≡_ {A = ℕ} 0 1 = cc (rejected, f) in absurd (omega arith)
-          go false f l = record { answers = refl; state = blank-saved Open (ongoing empty) (inl (refl, refl)); counts = sym (read-size buffer n ts bytes (ready .journal)); stored = l }
+          go false f l = record { answers = refl; state = blank-open; counts = sym (read-size buffer n ts bytes (ready .journal)); stored = l }

@@ -1,4 +1,4 @@
--- Laws of zeros: an array laid over with them, and how many stand behind a text.
+-- Laws of an array that is cleared: zero is laid over every byte.
 use mathlib.Core.List.{List, [], _∷_, map}
 use mathlib.Core.Path.{_≡_, refl, sym, ap, _∙_}
 use Prim.Native.Nat.{ℕ}
