@@ -5,6 +5,7 @@
 #include <fcntl.h>
 #include <stdio.h>
 #include <stdlib.h>
+#include <string.h>
 #include <sys/file.h>
 #include <unistd.h>
 
@@ -30,10 +31,22 @@ static long read_line(uint8_t *line) {
 
 // The journal's length in its file, with its bytes in memory; an empty file is the empty journal.
 static size_t load(int file) {
-    static const uint8_t empty[4];
     ssize_t n = pread(file, journal, sizeof journal, 0);
-    if (n == 0) n = pwrite(file, empty, sizeof empty, 0);
+    if (n == 0) {
+        memset(journal, 0, 4);
+        n = pwrite(file, journal, 4, 0);
+    }
     return n > 0 ? (size_t)n : 0;
+}
+
+// The pager list; 0 where an argument is no number of at most eight digits, or there are too many.
+static int list_pagers(int count, char **numbers) {
+    for (int i = 0; i < count; i++) {
+        size_t n = strlen(numbers[i]);
+        if (i == PAGERS || n < 1 || n > 8 || strspn(numbers[i], "0123456789") != n) return 0;
+        pagers[pager_count++] = (uint32_t)strtoul(numbers[i], NULL, 10);
+    }
+    return 1;
 }
 
 // A step over the journal as it is now, which no other program changes meanwhile; what SEND has stored is in
@@ -57,8 +70,7 @@ static int take(int file, tyntolai_snpp_state *state, const uint8_t *line, size_
 int main(int argc, char **argv) {
     uint8_t line[TYNTOLAI_SNPP_LINE + 1], out[TYNTOLAI_SNPP_ANSWER];
     int file = argc < 2 ? -1 : open(argv[1], O_RDWR | O_CREAT, 0600);
-    if (file < 0 || argc - 2 > PAGERS) return 1;
-    for (int i = 2; i < argc; i++) pagers[pager_count++] = (uint32_t)strtoul(argv[i], NULL, 10);
+    if (file < 0 || !list_pagers(argc - 2, argv + 2)) return 1;
 
     tyntolai_answer greeting = tyntolai_snpp_greeting(out, sizeof out);
     fwrite(out, 1, greeting.count, stdout);
