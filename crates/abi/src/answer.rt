@@ -8,7 +8,7 @@ use line::{Checked, Refusal, Written};
 
 // The count, which is 0 for a refusal, and document 01's number, which is 0 where the call is done.
 #[repr(C)]
-#[derive(Drop)]
+#[derive(Clone, Copy)]
 pub struct Answer {
     pub count: usize,
     pub code: u8,

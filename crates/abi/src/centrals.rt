@@ -14,7 +14,7 @@ use central::{Control, Moved, Settings, Stage};
 use line::Refusal;
 
 #[repr(C)]
-#[derive(Drop)]
+#[derive(Clone, Copy)]
 pub struct CentralSettings {
     pub password: Password,
     pub longest: usize,
@@ -23,7 +23,7 @@ pub struct CentralSettings {
 
 // The stage by its number: 0 Idle, 1 Logon, 2 Block, 3 Closed. The unfinished information lies in lent memory.
 #[repr(C)]
-#[derive(Drop)]
+#[derive(Clone, Copy)]
 pub struct CentralState {
     pub stage: u8,
     pub failures: usize,
@@ -32,7 +32,7 @@ pub struct CentralState {
 }
 
 #[repr(C)]
-#[derive(Drop)]
+#[derive(Clone, Copy)]
 pub struct CentralStepped {
     pub answer: Answer,
     pub state: CentralState,

@@ -23,7 +23,7 @@ use line::{Refusal, Written};
 // The way of cutting by its number: 0 filled, 1 whole fields; and when an accepted verdict stands: 0 early,
 // 1 late.
 #[repr(C)]
-#[derive(Drop)]
+#[derive(Clone, Copy)]
 pub struct DeviceSettings {
     pub password: Password,
     pub retries: usize,
@@ -34,7 +34,7 @@ pub struct DeviceSettings {
 // The step by its number: 0 Stopped, 1 Opening, 2 Logon, 3 Sending, 4 Closing; and its particulars,
 // which are 0 once the device has stopped.
 #[repr(C)]
-#[derive(Drop)]
+#[derive(Clone, Copy)]
 pub struct DeviceState {
     pub step: u8,
     pub transaction: usize,
@@ -47,7 +47,7 @@ pub struct DeviceState {
 // how the accepted verdicts stand: 0 open, 1 confirmed, 2 in doubt; and where the central's lines stand
 // in the reply.
 #[repr(C)]
-#[derive(Drop)]
+#[derive(Clone, Copy)]
 pub struct DeviceStepped {
     pub answer: Answer,
     pub state: DeviceState,

@@ -9,7 +9,7 @@ use framer::{Framed, Framer, feed, flush};
 
 // The count is the length of the string, or 0 where none is complete yet; and how many bytes were used.
 #[repr(C)]
-#[derive(Drop)]
+#[derive(Clone, Copy)]
 pub struct FramerFed {
     pub answer: Answer,
     pub used: usize,
@@ -17,7 +17,7 @@ pub struct FramerFed {
 }
 
 #[repr(C)]
-#[derive(Drop)]
+#[derive(Clone, Copy)]
 pub struct FramerFlushed {
     pub answer: Answer,
     pub state: Framer,

@@ -16,14 +16,14 @@ use snpp::step::step;
 use snpp::{Settings, Stage, State};
 
 #[repr(C)]
-#[derive(Drop)]
+#[derive(Clone, Copy)]
 pub struct GatewaySettings {
     pub longest: usize,
 }
 
 // The stage by its number: 0 Open, 1 Entered, 2 Closed.
 #[repr(C)]
-#[derive(Drop)]
+#[derive(Clone, Copy)]
 pub struct GatewayState {
     pub stage: u8,
     pub pager: [u8; 8],
@@ -33,7 +33,7 @@ pub struct GatewayState {
 }
 
 #[repr(C)]
-#[derive(Drop)]
+#[derive(Clone, Copy)]
 pub struct GatewayStepped {
     pub answer: Answer,
     pub state: GatewayState,

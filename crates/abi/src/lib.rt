@@ -1,5 +1,7 @@
 // The public functions under C names, as include/tyntolai.h declares them: numbers in the place of
 // enums, and states and settings as plain records.
+#![tactic(auto)]
+
 pub mod answer;
 pub mod centrals;
 pub mod deletions;

@@ -4,7 +4,7 @@ ghost use Rattle.abi.specs.Settings.{password_of};
 
 // 0 to 6 letters and digits.
 #[repr(C)]
-#[derive(Drop)]
+#[derive(Clone, Copy)]
 pub struct Password {
     pub characters: [u8; 6],
     pub length: usize,

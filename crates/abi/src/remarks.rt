@@ -9,7 +9,7 @@ use reply::{IdLine, Span};
 // What there is: 0 no places, 1 the lines before the code, 2 also one that begins with `ID`; where
 // the lines stand, and the last such line. A part that there is not is 0 and 0.
 #[repr(C)]
-#[derive(Drop)]
+#[derive(Clone, Copy)]
 pub struct Remarks {
     pub found: u8,
     pub lines: Span,

@@ -14,7 +14,7 @@ use line::answer::number;
 
 // The strings that the device put out, the journal's new length, and document 01's number.
 #[repr(C)]
-#[derive(Drop)]
+#[derive(Clone, Copy)]
 pub struct RunTotals {
     pub transmissions: usize,
     pub journal: usize,

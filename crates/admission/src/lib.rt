@@ -1,4 +1,6 @@
 // The content rules, and "admit, then append": whether a whole transaction goes into a journal.
+#![tactic(auto)]
+
 ghost use Rattle.std.specs.Prelude.{true, ◌≡◌, ◌≤◌};
 ghost use Rattle.std.proofs.Math.ListN as ListN;
 ghost use Rattle.line.specs.Test.{all};
@@ -15,7 +17,7 @@ use line::transaction::check_transaction;
 use line::{Checked, Refusal, Written};
 
 // What becomes of information that is offered to a journal.
-#[derive(Drop)]
+#[derive(Clone, Copy)]
 pub enum Admitted {
     // It is stored: the journal's new length.
     Stored(usize),

@@ -1,4 +1,6 @@
 // One transaction more, at the end of a journal that lies at the start of a lent buffer.
+#![tactic(auto)]
+
 ghost use Rattle.std.specs.Prelude.{◌≡◌, ◌+◌, ◌/◌, ◌%◌, ◌<◌, ◌≤◌};
 ghost use Rattle.std.proofs.Math.ListN as ListN;
 ghost use Rattle.line.specs.Answer.{Wrote, overlay};

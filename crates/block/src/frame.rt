@@ -11,7 +11,7 @@ use line::transaction::ends_in_cr;
 use line::{Refusal, Written};
 
 // How a block ends.
-#[derive(Drop)]
+#[derive(Clone, Copy)]
 pub enum Ending {
     // The transaction ends here.
     Etx,
@@ -22,7 +22,7 @@ pub enum Ending {
 }
 
 // What a string is as a block.
-#[derive(Drop)]
+#[derive(Clone, Copy)]
 pub enum Reading {
     Block(Ending),
     Refused(Refusal),

@@ -1,5 +1,7 @@
 // Reads lines from standard input and prints the blocks of each. What a line prints is
 // `listing::list`; this program only moves bytes, in large pieces.
+#![tactic(auto)]
+
 ghost use Rattle.std.specs.Prelude.{List, [], ◌++◌, ◌≡◌, ℕ, ◌≤◌, length, take};
 ghost use Rattle.line.specs.Answer.{Laid};
 ghost use Rattle.listing.specs.Listing.{listing};
@@ -16,7 +18,7 @@ use listing::{ROOM, list};
 const KEPT: usize = 2000;
 
 // How many characters of the present line are kept, and how many bytes wait to be written.
-#[derive(Drop)]
+#[derive(Clone, Copy)]
 struct Filled {
     kept: usize,
     waiting: usize,

@@ -19,7 +19,7 @@ use line::answer::count;
 
 // Both ends between two transmissions, the central's unfinished information aside; the length of the
 // string that the device has put out; and how it says that the accepted verdicts stand.
-#[derive(Drop)]
+#[derive(Clone, Copy)]
 pub struct Saved {
     pub device: device::State,
     pub central: central::Control,

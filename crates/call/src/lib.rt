@@ -1,4 +1,6 @@
 // A call: both ends over a list of line faults.
+#![tactic(auto)]
+
 mod exchange;
 mod fault;
 mod range;

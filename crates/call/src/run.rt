@@ -19,13 +19,13 @@ use line::transaction::MOST_INFORMATION;
 use line::{Checked, Refusal};
 
 // What a run comes to: the strings that the device put out, and the journal's new length.
-#[derive(Drop)]
+#[derive(Clone, Copy)]
 pub struct Totals {
     pub transmissions: usize,
     pub journal: usize,
 }
 
-#[derive(Drop)]
+#[derive(Clone, Copy)]
 pub enum Ran {
     Done(Totals),
     Refused(Refusal),

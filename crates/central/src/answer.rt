@@ -8,7 +8,7 @@ use line::Written;
 use line::character::{ACK, CR, EOT, ESC, NAK, RS};
 use line::parity::set_parity;
 
-#[derive(Drop)]
+#[derive(Clone, Copy)]
 pub enum Answer {
     Nothing,
     // The caller is asked who calls.
@@ -23,7 +23,7 @@ pub enum Answer {
 }
 
 // The characters of an answer, at the start of the array.
-#[derive(Drop)]
+#[derive(Clone, Copy)]
 pub struct Text {
     pub characters: [u8; 7],
     pub length: usize,

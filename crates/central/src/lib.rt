@@ -1,4 +1,6 @@
 // The central: what it does with each string that comes off the line.
+#![tactic(auto)]
+
 mod answer;
 pub mod lent;
 mod logon;

@@ -24,7 +24,7 @@ use line::memory::{copy, is_same};
 use line::transaction::MOST_INFORMATION;
 
 // The answer, and the central behind it.
-#[derive(Drop)]
+#[derive(Clone, Copy)]
 pub struct Reacted {
     pub answer: Answer,
     pub control: Control,

@@ -1,7 +1,7 @@
 // The central's settings, its saved state, and what a step answers.
 use line::{Password, Written};
 
-#[derive(Drop)]
+#[derive(Clone, Copy)]
 pub struct Settings {
     pub password: Password,
     // The longest transaction, 3 to 2,000.
@@ -10,7 +10,7 @@ pub struct Settings {
     pub retries: usize,
 }
 
-#[derive(Drop)]
+#[derive(Clone, Copy)]
 pub enum Stage {
     // Nobody calls.
     Idle,
@@ -22,7 +22,7 @@ pub enum Stage {
     Closed,
 }
 
-#[derive(Drop)]
+#[derive(Clone, Copy)]
 pub struct State {
     pub stage: Stage,
     // Failures in a row.
@@ -35,14 +35,14 @@ pub struct State {
 }
 
 // The bytes put out, or the refusal; and the state behind the step.
-#[derive(Drop)]
+#[derive(Clone, Copy)]
 pub struct Stepped {
     pub outcome: Written,
     pub state: State,
 }
 
 // A state whose unfinished information lies in lent memory, of this length at its start.
-#[derive(Drop)]
+#[derive(Clone, Copy)]
 pub struct Control {
     pub stage: Stage,
     pub failures: usize,
@@ -51,7 +51,7 @@ pub struct Control {
 }
 
 // The same as `Stepped`, beside lent memory.
-#[derive(Drop)]
+#[derive(Clone, Copy)]
 pub struct Moved {
     pub outcome: Written,
     pub control: Control,

@@ -4,7 +4,7 @@ ghost use Rattle.delete.specs.Inner.{is_chosen};
 
 use admission::is_for;
 
-#[derive(Drop)]
+#[derive(Clone, Copy)]
 pub(crate) enum Choice {
     // The record of this rank from the newest, which has 1.
     Newest(usize),

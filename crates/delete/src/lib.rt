@@ -1,5 +1,7 @@
 // Records deleted from a journal while no call is open (document 02's strike): one by its place from the newest, or all of one
 // pager.
+#![tactic(auto)]
+
 mod choice;
 mod compaction;
 pub mod lent;

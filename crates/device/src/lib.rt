@@ -1,4 +1,6 @@
 // The entry device: what it sends, and what it makes of each reply.
+#![tactic(auto)]
+
 pub mod job;
 pub mod range;
 mod reaction;

@@ -9,7 +9,7 @@ use crate::state::{Given, Place, Report, Settings, Step, Verdict};
 use reply::{Meaning, Reply};
 
 // The step behind a reply, the verdict it gives, and what it reports.
-#[derive(Drop)]
+#[derive(Clone, Copy)]
 pub(crate) struct Move {
     pub step: Step,
     pub given: Given,
@@ -17,7 +17,7 @@ pub(crate) struct Move {
 }
 
 // The code of a reply to a block.
-#[derive(Drop)]
+#[derive(Clone, Copy)]
 pub(crate) enum Code {
     Ack,
     Nak,
@@ -27,7 +27,7 @@ pub(crate) enum Code {
 }
 
 // A reply as the block's step reads it, to be taken apart by `let .. else`.
-#[derive(Drop)]
+#[derive(Clone, Copy)]
 pub(crate) enum BlockReply {
     Recognized(Code),
     Unrecognized,

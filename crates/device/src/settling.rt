@@ -11,7 +11,7 @@ use crate::state::{Confirmation, Report, Settings, Step, Verdict, verdict_number
 use reply::{Meaning, Reply};
 
 // How the accepted verdicts of a call stand.
-#[derive(Drop)]
+#[derive(Clone, Copy)]
 pub enum Standing {
     // Nothing is said of them: the call goes on, or was over before.
     Open,

@@ -7,7 +7,7 @@ use line::{Password, Written};
 use reply::{Remarks, Reply};
 use segmentation::Way;
 
-#[derive(Drop)]
+#[derive(Clone, Copy)]
 pub struct Settings {
     pub password: Password,
     // How often a string is sent again after NAK, 0 to 9.
@@ -19,7 +19,7 @@ pub struct Settings {
 }
 
 // When an accepted verdict stands.
-#[derive(Drop)]
+#[derive(Clone, Copy)]
 pub enum Confirmation {
     // As soon as it is given.
     Early,
@@ -29,7 +29,7 @@ pub enum Confirmation {
 
 // Which block of which transaction is waited for, both from 0, and how often the string was sent.
 // Outside sending, transaction and block are 0.
-#[derive(Drop)]
+#[derive(Clone, Copy)]
 pub struct Place {
     pub transaction: usize,
     pub block: usize,
@@ -37,7 +37,7 @@ pub struct Place {
 }
 
 // The step that the device waits in for a reply.
-#[derive(Drop)]
+#[derive(Clone, Copy)]
 pub enum Step {
     Opening(Place),
     Logon(Place),
@@ -46,13 +46,13 @@ pub enum Step {
     Stopped,
 }
 
-#[derive(Drop)]
+#[derive(Clone, Copy)]
 pub struct State {
     pub step: Step,
 }
 
 // What became of a transaction.
-#[derive(Drop)]
+#[derive(Clone, Copy)]
 pub enum Verdict {
     // 1: stored by the central (document 01's taken).
     Accepted,
@@ -83,14 +83,14 @@ pub fn verdict_number(verdict: Verdict) -> u8
 }
 
 // The verdict that a step gives, and to which transaction.
-#[derive(Drop)]
+#[derive(Clone, Copy)]
 pub enum Given {
     Verdict(usize, Verdict),
     Nothing,
 }
 
 // The reply to the close, once it came.
-#[derive(Drop)]
+#[derive(Clone, Copy)]
 pub enum Report {
     Close(Reply),
     Nothing,
@@ -99,7 +99,7 @@ pub enum Report {
 // The bytes put out, or the refusal; the state behind the step; what it gives and reports; at the
 // stop, what becomes of the accepted verdicts given before; and where the central's lines stand in
 // the reply that was read.
-#[derive(Drop)]
+#[derive(Clone, Copy)]
 pub struct Stepped {
     pub outcome: Written,
     pub state: State,

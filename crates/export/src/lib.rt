@@ -1,4 +1,6 @@
 // A journal written out as the lines that bring it in again.
+#![tactic(auto)]
+
 ghost use Rattle.std.specs.Prelude.{◌≡◌, ◌+◌, ◌≤◌};
 ghost use Rattle.std.proofs.Math.ListN as ListN;
 ghost use Rattle.line.specs.Answer.{Laid, Wrote, checked_as, map_done};

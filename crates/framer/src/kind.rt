@@ -7,7 +7,7 @@ ghost use Rattle.framer.specs.Kind.{member};
 
 use line::character::{EOT, ETB, ETX, STX, US};
 
-#[derive(Drop)]
+#[derive(Clone, Copy)]
 pub(crate) enum Kind {
     // STX or EOT: a string begins.
     Opening,

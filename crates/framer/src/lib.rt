@@ -1,5 +1,7 @@
 // A framer: from the bytes that a wire brings, a few at a time, the strings that the central's Block
 // stage is given. What a byte is goes by its low seven bits; strings come out as they came in.
+#![tactic(auto)]
+
 mod kind;
 
 ghost use Rattle.std.specs.Prelude.{true, [], ◌++◌, ◌≡◌, ◌+◌, ◌^◌, ◌<◌, ◌≤◌, min};
@@ -22,14 +24,14 @@ const TAIL: usize = 5;
 
 // The bytes held, as they came, and zeros behind them.
 #[repr(C)]
-#[derive(Drop)]
+#[derive(Clone, Copy)]
 pub struct Framer {
     pub held: [u8; 256],
     pub length: usize,
 }
 
 // What feeding answers.
-#[derive(Drop)]
+#[derive(Clone, Copy)]
 pub enum Framed {
     // A string, of this length, at the start of the output.
     Whole(usize),
@@ -39,7 +41,7 @@ pub enum Framed {
 }
 
 // The answer, how many bytes were used, and the state behind them.
-#[derive(Drop)]
+#[derive(Clone, Copy)]
 pub struct Fed {
     pub outcome: Framed,
     pub used: usize,
@@ -47,7 +49,7 @@ pub struct Fed {
 }
 
 // The string put out, or the refusal; and the state behind it.
-#[derive(Drop)]
+#[derive(Clone, Copy)]
 pub struct Flushed {
     pub outcome: Written,
     pub state: Framer,

@@ -8,14 +8,14 @@ use line::Refusal;
 use line::transaction::is_legal;
 
 // Where a walk stands: the end of the records that are left, and how many these are.
-#[derive(Drop)]
+#[derive(Clone, Copy)]
 pub struct Position {
     pub end: usize,
     pub left: usize,
 }
 
 // Where a record's information lies, and the position behind it.
-#[derive(Drop)]
+#[derive(Clone, Copy)]
 pub struct Place {
     pub start: usize,
     pub length: usize,
@@ -23,14 +23,14 @@ pub struct Place {
 }
 
 // Where a walk starts, or why it cannot.
-#[derive(Drop)]
+#[derive(Clone, Copy)]
 pub enum Opened {
     At(Position),
     Refused(Refusal),
 }
 
 // What a step finds.
-#[derive(Drop)]
+#[derive(Clone, Copy)]
 pub enum Step {
     Record(Place),
     End,

@@ -6,7 +6,7 @@ use crate::cursor::{Opened, Step, open, step_back};
 
 // The journal that is walked, lent at its exact length, and where the walk stands: at a record, at
 // the end, or why nowhere.
-#[derive(Drop)]
+#[derive(Clone, Copy)]
 pub struct Cursor<'a> {
     pub journal: &'a [u8],
     pub at: Step,

@@ -1,5 +1,7 @@
 // The journal of stored transactions (document 01's book): records, each with its length behind it,
 // and a trailer that points back.
+#![tactic(auto)]
+
 pub mod buffer;
 pub mod cursor;
 pub mod held;

@@ -9,7 +9,7 @@ use crate::cursor::{Opened, Position, Step, open, step_back};
 use line::{Checked, Refusal};
 
 // Where the information of a record lies in the journal.
-#[derive(Drop)]
+#[derive(Clone, Copy)]
 pub struct Extent {
     pub start: usize,
     pub length: usize,
@@ -17,7 +17,7 @@ pub struct Extent {
 
 // How many records there are, where the one that was asked for lies, and the one behind it. An
 // extent of no bytes is no record.
-#[derive(Drop)]
+#[derive(Clone, Copy)]
 pub struct Located {
     pub count: usize,
     pub here: Extent,
@@ -25,7 +25,7 @@ pub struct Located {
 }
 
 // What one walk over the journal finds.
-#[derive(Drop)]
+#[derive(Clone, Copy)]
 pub enum Surveyed {
     Found(Located),
     Refused(Refusal),

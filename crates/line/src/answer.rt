@@ -3,7 +3,7 @@ ghost use Rattle.std.specs.Prelude.{◌≡◌};
 ghost use Rattle.line.specs.Answer.{checked_as, count_of, number_of, refusal_number, written_as};
 
 // Why a call was refused. `number` gives document 01's number.
-#[derive(Drop)]
+#[derive(Clone, Copy)]
 pub enum Refusal {
     // 1: an output or work buffer has the wrong size or is short.
     Size,
@@ -26,14 +26,14 @@ pub enum Refusal {
 }
 
 // What a writer answers: how many bytes it put at the start of the lent memory, or why none.
-#[derive(Drop)]
+#[derive(Clone, Copy)]
 pub enum Written {
     Count(usize),
     Refused(Refusal),
 }
 
 // What a test answers that writes nothing: how many it has counted, or why it counts none.
-#[derive(Drop)]
+#[derive(Clone, Copy)]
 pub enum Checked {
     Count(usize),
     Refused(Refusal),

@@ -26,7 +26,7 @@ pub const RS: u8 = 0x1E;
 pub const US: u8 = 0x1F;
 
 // A class of characters.
-#[derive(Drop)]
+#[derive(Clone, Copy)]
 pub enum Class {
     // Below 80 hex.
     SevenBit,

@@ -1,5 +1,7 @@
 // What every part of the TAP link stands on: the characters of the line, even parity, legal
 // transactions, and the numbered refusals.
+#![tactic(auto)]
+
 pub mod answer;
 pub mod character;
 pub mod memory;

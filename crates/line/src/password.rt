@@ -4,7 +4,7 @@ ghost use Rattle.line.specs.Password.{password_in_range};
 
 use crate::character::{Class, are};
 
-#[derive(Drop)]
+#[derive(Clone, Copy)]
 pub struct Password {
     pub characters: [u8; 6],
     pub length: usize,

@@ -1,4 +1,6 @@
 // What the program `blocks` prints for one line of its input.
+#![tactic(auto)]
+
 ghost use Rattle.std.specs.Prelude.{true, ◌≡◌, ◌+◌, ◌-◌, ◌%◌, ◌<◌, ◌≤◌, min, ltb, length, set, if◌then◌else◌};
 ghost use mathlib.Core.List.{◌++◌, flat_map};
 ghost use Rattle.line.specs.Answer.{Laid, Wrote, checked_as, done, refusal_number};

@@ -1,4 +1,6 @@
 // Joining the blocks of a transaction again, a block at a time, in a buffer that the caller lends.
+#![tactic(auto)]
+
 ghost use Rattle.std.specs.Prelude.{not, ◌≡◌, ◌-◌, min, length};
 ghost use Rattle.block.specs.Segments.{continues};
 ghost use Rattle.reassembly.specs.Reassembly.{Joined, in_range, join_block};
@@ -12,14 +14,14 @@ use line::transaction::{MOST_INFORMATION, ends_in_cr};
 
 // How many characters have been joined, at the start of the buffer, and whether a block with ETX
 // was among them.
-#[derive(Drop)]
+#[derive(Clone, Copy)]
 pub struct Reassembly {
     pub length: usize,
     pub complete: bool,
 }
 
 // What a step answers: the next state, or why no block was joined.
-#[derive(Drop)]
+#[derive(Clone, Copy)]
 pub enum Reassembled {
     Next(Reassembly),
     Refused(Refusal),

@@ -1,5 +1,7 @@
 // What the entry device may read. Every byte string has exactly the meaning that the grammar of
 // document 01 gives it; any other string is unrecognized, and carries nothing to act on.
+#![tactic(auto)]
+
 pub mod remarks;
 
 ghost use Rattle.std.specs.Prelude.{◌&&◌, ◌||◌, ◌≡◌, ◌≤◌, eqb, length, drop};
@@ -12,7 +14,7 @@ use line::parity::clear_parity;
 pub use remarks::{IdLine, Remarks, Span};
 
 // What a reply means.
-#[derive(Drop)]
+#[derive(Clone, Copy)]
 pub enum Meaning {
     // `ID=`: the central asks who calls.
     IdRequest,
@@ -26,7 +28,7 @@ pub enum Meaning {
 }
 
 // What was read, to be taken apart by `let .. else`.
-#[derive(Drop)]
+#[derive(Clone, Copy)]
 pub enum Reply {
     Recognized(Meaning),
     Unrecognized,

@@ -11,21 +11,21 @@ use line::character::{CR, Class, LF, is};
 
 // A part of a reply: `&reply[begin..end]`.
 #[repr(C)]
-#[derive(Drop)]
+#[derive(Clone, Copy)]
 pub struct Span {
     pub begin: usize,
     pub end: usize,
 }
 
 // The last line that begins with `ID`, its ending left out.
-#[derive(Drop)]
+#[derive(Clone, Copy)]
 pub enum IdLine {
     At(Span),
     Nothing,
 }
 
 // What the central wrote before the code (TAP's message sequence, document 02's places).
-#[derive(Drop)]
+#[derive(Clone, Copy)]
 pub enum Remarks {
     // The lines, their endings included: where there are none, the empty span at 0.
     At(Span, IdLine),
@@ -68,7 +68,7 @@ fn has_lines(meaning: Meaning) -> bool
 }
 
 // A search for the ID line: where the line at hand begins, and what was found before it.
-#[derive(Drop)]
+#[derive(Clone, Copy)]
 pub(crate) struct Search {
     pub begin: usize,
     pub last: IdLine,

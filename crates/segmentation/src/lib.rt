@@ -1,4 +1,6 @@
 // Cutting a transaction into blocks, in either way.
+#![tactic(auto)]
+
 pub mod way;
 
 ghost use Rattle.std.specs.Prelude.{true, ◌≡◌, ◌+◌, ◌-◌, ◌*◌, ◌<◌, ◌≤◌, min, drop, length};

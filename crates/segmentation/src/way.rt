@@ -6,7 +6,7 @@ use block::frame::INFORMATION;
 use line::transaction::ends_in_cr;
 
 // How a transaction is cut into blocks.
-#[derive(Drop)]
+#[derive(Clone, Copy)]
 pub enum Way {
     // Each block is filled, and the rest is put in the last.
     Filled,

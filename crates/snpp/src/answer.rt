@@ -9,7 +9,7 @@ use line::Written;
 use line::character::{CR, LF};
 use line::memory::copy;
 
-#[derive(Drop)]
+#[derive(Clone, Copy)]
 pub enum Answer {
     // After QUIT.
     Nothing,

@@ -5,7 +5,7 @@ ghost use Rattle.snpp.specs.Inner.{command_of};
 
 use line::memory::is_same;
 
-#[derive(Drop)]
+#[derive(Clone, Copy)]
 pub enum Command {
     Page,
     Message,

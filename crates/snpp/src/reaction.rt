@@ -19,7 +19,7 @@ use line::memory::copy;
 use line::transaction::MOST_INFORMATION;
 
 // The answer, the state but for the message itself, and the journal's length.
-#[derive(Drop)]
+#[derive(Clone, Copy)]
 pub struct Reacted {
     pub answer: Answer,
     pub control: Control,

@@ -1,13 +1,13 @@
 // The gateway's settings, its saved state, and what a step answers.
 use line::Written;
 
-#[derive(Drop)]
+#[derive(Clone, Copy)]
 pub struct Settings {
     // The longest transaction, 3 to 2,000.
     pub longest: usize,
 }
 
-#[derive(Drop)]
+#[derive(Clone, Copy)]
 pub enum Stage {
     // No message has been entered.
     Open,
@@ -17,7 +17,7 @@ pub enum Stage {
     Closed,
 }
 
-#[derive(Drop)]
+#[derive(Clone, Copy)]
 pub struct State {
     pub stage: Stage,
     // The pager ID that was entered last, and how many digits it has: none where it is none. Zeros stand behind it.
@@ -29,7 +29,7 @@ pub struct State {
 }
 
 // The bytes put out, or the refusal; the state behind the step, and the journal's length.
-#[derive(Drop)]
+#[derive(Clone, Copy)]
 pub struct Stepped {
     pub outcome: Written,
     pub state: State,
@@ -37,7 +37,7 @@ pub struct Stepped {
 }
 
 // A state whose message lies in lent memory.
-#[derive(Drop)]
+#[derive(Clone, Copy)]
 pub struct Control {
     pub stage: Stage,
     pub pager: [u8; 8],

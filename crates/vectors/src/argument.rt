@@ -20,7 +20,7 @@ pub(crate) const COUNT: usize = 1;
 
 // Bytes as a line writes them: a byte and how often it stands there; the characters that say so, and
 // the words that they begin.
-#[derive(Drop)]
+#[derive(Clone, Copy)]
 struct Run {
     byte: u8,
     count: u16,
@@ -29,7 +29,7 @@ struct Run {
 }
 
 // The word that is being put into memory, and where it ends so far.
-#[derive(Drop)]
+#[derive(Clone, Copy)]
 struct Place {
     word: u8,
     end: u16,

@@ -35,7 +35,7 @@ const FILLER: u8 = 0xA5;
 
 // What a call lends: memory of a size, with the bytes of a word at its start, and an output of a
 // size, filled with a byte.
-#[derive(Drop)]
+#[derive(Clone, Copy)]
 struct Loan {
     size: usize,
     word: u8,

@@ -40,7 +40,7 @@ pub(crate) const PAGERS: usize = 1001;
 // ── The central ──
 
 // The state before the first string, and which argument is the last before it.
-#[derive(Drop)]
+#[derive(Clone, Copy)]
 struct Heard {
     state: central::State,
     before: u8,
@@ -191,7 +191,7 @@ pub(crate) fn stage_name(stage: Stage) -> u8 {
 // ── The entry device ──
 
 // The state before the first reply, and which argument is the last before it.
-#[derive(Drop)]
+#[derive(Clone, Copy)]
 pub(crate) struct Begun {
     pub(crate) state: device::State,
     pub(crate) before: u8,

@@ -1,6 +1,8 @@
 // Makes calls on the proved functions, which standard input has a line each, and prints what comes
 // of each on a line. `tools/vectors.py` writes the calls, with the answers that documents 01 and 02
 // have to them, and says how a call is written.
+#![tactic(auto)]
+
 mod answer;
 mod argument;
 mod calls;
