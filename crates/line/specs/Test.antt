@@ -1,5 +1,5 @@
 -- Tests: a choice by one, one of every member of a list, whether two lists are the same, and where a member stands.
-use Rattle.std.specs.Prelude.{Bool, true, false, ◌&&◌, List, [], ◌∷◌, ℕ, suc, eqb}
+use Rattle.std.specs.Prelude.{Bool, true, false, ◌&&◌, List, [], ◌∷◌, ℕ, suc, eqb, if◌then◌else◌}
 
 -- every member of the list passes the test
 unfoldable pub all : (ℕ → Bool) → List ℕ → Bool

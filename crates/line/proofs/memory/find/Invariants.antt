@@ -1,0 +1,12 @@
+-- `find` meets its contract: the place that is looked for stays the same, counted from each place that the loop has reached.
+use mathlib.Core.Path.{◌≡◌}
+use Prim.Native.Nat.{◌+◌, ◌-◌}
+use lib.ListN.{length, drop}
+use Rattle.line.specs.Test.{before}
+use Rattle.line.proofs.memory.find.Given as goal
+
+abbrev pub invariant-loop-i : goal.invariant-loop-i
+invariant-loop-i l = l.from + before l.byte (drop l.from l.bytes) ≡ l.i + before l.byte (drop l.i l.bytes)
+
+abbrev pub decreases-loop-i : goal.decreases-loop-i
+decreases-loop-i l = length l.bytes - l.i

@@ -1,0 +1,14 @@
+-- `take_parity` meets its contract: after i turns the 7-bit values of the first i bytes lie over the start of the output.
+use mathlib.Core.Path.{◌≡◌}
+use mathlib.Core.List.{map}
+use Prim.Native.Nat.{◌≤◌, ◌-◌}
+use lib.ListN.{length, take}
+use Rattle.line.specs.Answer.{overlay}
+use Rattle.line.specs.Parity.{seven_bits}
+use Rattle.line.proofs.parity.take_parity.Given as goal
+
+abbrev pub invariant-loop-i : goal.invariant-loop-i
+invariant-loop-i l = (l.i ≤ length l.line) × (length l.out ≡ length l.initial.out) × (l.out ≡ overlay (take l.i (map seven_bits l.line)) l.initial.out)
+
+abbrev pub decreases-loop-i : goal.decreases-loop-i
+decreases-loop-i l = length l.line - l.i
