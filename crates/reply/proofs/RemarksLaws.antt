@@ -144,7 +144,7 @@ last-next l d = go (is_id l.text) refl d
 -- and of lines and more
 last-behind : {lines : List Line} {x : IdLine} (more : List Line) → LastId lines x → LastId (lines ++ more) (foldl newer x more)
 last-behind [] d = rw append-nil d
-last-behind (l ∷ more) d = rw append_assoc at (last-behind more (last-next l d))
+last-behind {lines = lines} (l ∷ more) d = rw append_assoc at (last-behind {lines = lines ++ l ∷ []} more (last-next l d))
 
 -- so the last is computed
 pub last_found : (lines : List Line) → LastId lines (last_id lines)
