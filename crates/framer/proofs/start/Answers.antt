@@ -2,12 +2,8 @@
 use Rattle.line.specs.Answer.{overlay}
 use Rattle.framer.specs.State.{blank}
 use mathlib.Core.Path.{refl}
-use Rattle.framer.proofs.start.Statement.{statement}
-use Rattle.framer.proofs.start.Tie as tie
+use Rattle.framer.proofs.start.Goals as goal
 
-returns : tie.Need-returns
+pub returns : goal.returns
 unfolding overlay blank
 returns c = refl
-
-pub start_spec : {M : Type 1} → statement M
-start_spec = tie.close (tie.spec returns)
