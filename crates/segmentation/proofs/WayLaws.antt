@@ -113,6 +113,7 @@ module _ {cut : List ℕ → ℕ} (cuts : Cuts cut) where
   -- the next segment, and those of what is left behind it
   pub way_next : (t : List ℕ) → 1 ≤ length t → all_segments cut t ≡ next_segment cut t ∷ all_segments cut (drop (cut t) t)
   unfolding segments_by
+  way_next [] some = elim some [ ]
   way_next (c ∷ t) some = go (leb (length (c ∷ t)) (cut (c ∷ t))) refl
     where
       left : List ℕ

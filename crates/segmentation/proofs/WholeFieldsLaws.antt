@@ -12,7 +12,6 @@ use borrow.Author.Tests.{leb-true, leb-false, lt-ltb, eqb-true, eqb-false, ne_eq
 use lib.Dec.{eqb, leb, ltb}
 use lib.ListN.{length, take, drop, length-take, length-drop, take-append-drop}
 use lib.Seq.{take_all, take-add}
-use Rattle.line.specs.Test.{all}
 use Rattle.line.specs.Character.{CR}
 use Rattle.line.specs.Transaction.{ends_in_cr}
 use Rattle.line.proofs.ListLaws.{take_min}
