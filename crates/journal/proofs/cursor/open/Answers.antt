@@ -4,6 +4,7 @@ use mathlib.Core.Bool.{not}
 use mathlib.Core.List.{List}
 use mathlib.Core.Path.{◌≡◌, sym, ◌∙◌}
 use Prim.Native.Nat.{ℕ, ◌+◌, ◌≤◌}
+use native.Mathlib.Omega.{arith}
 use borrow.Author.Tests.{lt-ltb, le-ltb, eq-eqb, ne_eqb}
 use lib.Dec.{eqb}
 use lib.ListN.{length}
@@ -27,7 +28,7 @@ unfolding trailer
 returns-then-left-gt-RECORDS c =
     let four = c.if-n-lt-TRAILER.false in
     let left = trailer-left c.args.journal.now four ∙ sym c.number_at-left.ensures in
-    rw (le-ltb _ 4 four, left, lt-ltb 64 _ c.if-left-gt-RECORDS.true)
+    rw (le-ltb _ 4 four, left, lt-ltb 64 c.number_at-left.result (omega arith))
 
 pub returns-then-end-gt-BYTES : goal.returns-then-end-gt-BYTES
 unfolding trailer
