@@ -1,4 +1,4 @@
--- `step_back_lem` meets its contract: the tests are those of `step_from`, and a record that is left is looked for before the end.
+-- `step_back` meets its contract: the tests are those of `step_from`, and a record that is left is looked for before the end.
 use mathlib.Core.Path.{◌∙◌}
 use borrow.Author.Tests.{lt-ltb, le-ltb, eq-eqb, ne_eqb}
 use Rattle.journal.specs.Walk.{step_from}
