@@ -1,12 +1,8 @@
 -- `enter` meets its contract: nothing is unfinished, and the array and the journal stay.
 use Rattle.central.proofs.ReactedLaws.{shows-none}
-use Rattle.central.proofs.reaction.enter.Statement.{statement}
-use Rattle.central.proofs.reaction.enter.Tie as tie
+use Rattle.central.proofs.reaction.enter.Goals as goal
 
-returns : tie.Need-returns
+pub returns : goal.returns
 returns c =
     let a = c.args in
     λ array ts h. shows-none a.control a.stage a.answer array ts
-
-pub enter_spec : {M : Type 1} → statement M
-enter_spec = tie.close (tie.spec returns)
