@@ -8,7 +8,7 @@ use Prim.Native.Nat.{ℕ, zero, suc, ◌+◌}
 use native.Mathlib.Omega.{arith}
 use borrow.Author.Tests.{not-false}
 use lib.Dec.{ltb, eqb, eqb-suc-zero}
-use lib.ListN.{length, take}
+use lib.ListN.{take}
 use Rattle.line.proofs.OutcomeLaws.{then_done, map-done, met, passed}
 use Rattle.line.proofs.OverlayLaws.{overlay-start}
 use Rattle.line.specs.Answer.{Outcome, done, refused, map_done, and_then, overlay}
