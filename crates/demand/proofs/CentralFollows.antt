@@ -11,7 +11,7 @@ use borrow.Author.Tests.{lt-ltb, le-ltb, eqb-true, eqb-false}
 use lib.Dec.{ltb, leb, eqb}
 use lib.ListN.{length}
 use Rattle.line.proofs.OutcomeLaws.{choice}
-use Rattle.line.specs.Answer.{Outcome, refused}
+use Rattle.line.specs.Answer.{Outcome}
 use Rattle.line.specs.Character.{CR, EOT, ESC, STX, alphanumeric, seven}
 use Rattle.line.specs.Password.{password_text}
 use Rattle.line.specs.Test.{all, same}

@@ -18,7 +18,7 @@ use Rattle.device.specs.declared.state.Report.{Report}
 use Rattle.device.specs.declared.state.Report.TheVariants as Reporting
 use Rattle.device.specs.declared.state.Settings.{Settings}
 use Rattle.device.specs.declared.state.Step.{Step}
-use Rattle.device.specs.declared.state.Step.TheVariants.{Logon, Sending, Stopped}
+use Rattle.device.specs.declared.state.Step.TheVariants.{Opening, Logon, Sending, Stopped}
 use Rattle.device.specs.declared.state.Verdict.{Verdict}
 use Rattle.device.specs.declared.state.Verdict.TheVariants.{Rejected}
 use Rattle.demand.specs.Clean.{matching}
@@ -29,7 +29,7 @@ use Rattle.demand.proofs.DeviceFollows.{read_as, Same, same-opening, same-logon,
 use Rattle.demand.proofs.Instance.{model, limits, model_laws, legal-cut}
 use Rattle.demand.proofs.Invariant.{Good, is-opening, is_logging_on, is-sending, is_closing, at_idle, at-logon, at-closed, at-blocks, at_any, good-exchange, reached-start}
 use Rattle.demand.proofs.Messages.{Message, Parameters, hello, login, bye, carries, whole, last, refused}
-use Rattle.demand.proofs.Model.{CentralPhase, Device, ModelEnds, Response, model_ends, hears, takes}
+use Rattle.demand.proofs.Model.{CentralPhase, Device, ModelEnds, Response, device, opening, loggingOn, model_ends, hears, takes}
 use Rattle.demand.proofs.RunFollows.{SameEnds, ends, exchange-same, plain, reads_same, short}
 use Rattle.demand.proofs.RunLaws.{clean-fair-at, stopped_rests}
 use Rattle.demand.proofs.Stops.{run-stops}
@@ -82,26 +82,44 @@ module _ {J : Type 0} (i : Inputs J) (l : Legal i) (match : matching i ≡ true)
   abbrev Calm : ModelEnds J → Type 0
   Calm = Good (model i) i.job i.journal (Unit {0})
 
+  -- the end that a step, its verdicts and the central make
+  abbrev at_step : Step → List Verdict → Report → Central J → ℕ → Ends J
+  at_step step vs shown c n = record { step = step; verdicts = vs; report = shown; central = c; transmissions = n }
+
   -- what holds of the move that a string's answer leads to, as it is meant, holds of the device's: it reads that answer
   follows_meant : (P : Move → Type 0) {step : Step} {vs : List Verdict} (shown : Report) (c : Central J) (n : ℕ) {v : Device} {s : CentralPhase} {j : J} (x : Message) →
       (step ≡ Stopped → ⊥) → Says i (string_text i.device i.job step) x → Same i step vs v → SameCentral i c s j →
       P (moves i.device i.job step (read_as (hears (model i) (limits i) s j x).answer)) →
-      P (follows i clean (record { step = step; verdicts = vs; report = shown; central = c; transmissions = n }))
+      P (follows i clean (at_step step vs shown c n))
   unfolding follows
   follows_meant P {step} {vs} shown c n x moving says dev both =
-      let e : Ends J = record { step = step; verdicts = vs; report = shown; central = c; transmissions = n } in
+      let e : Ends J = at_step step vs shown c n in
       subst (λ r. P (moves i.device i.job step r)) (sym (reads_same i l clean e x moving says (clean-fair-at i e) dev both))
+
+  -- a device that opens goes on
+  opening_stop : {a : ℕ} {vs : List Verdict} (shown : Report) (c : Central J) (n : ℕ) {v : Device} {left : List (List ℕ)} {told : List Verdict} {s : CentralPhase} {j : J} →
+      Same i (Opening (place 0 0 a)) vs v → SameCentral i c s j → Calm (model_ends (device (opening a) left told) s j) → (Opening (place 0 0 a) ≡ Stopped → ⊥) →
+      Leaves (follows i clean (at_step (Opening (place 0 0 a)) vs shown c n))
+  unfolding moves hears
+  opening_stop shown c n dev both (is-opening at_idle) moving = follows_meant Leaves shown c n hello moving says_hello dev both (goes_on_lem (goes (Logon first)) refl)
+  opening_stop shown c n dev both (is-opening at-logon) moving = follows_meant Leaves shown c n hello moving says_hello dev both (goes_on_lem (goes (Logon first)) refl)
+  opening_stop shown c n dev both (is-opening (at-closed q)) moving = absurd (q tt)
+
+  -- so does one that logs on
+  logon_stop : {a : ℕ} {vs : List Verdict} (shown : Report) (c : Central J) (n : ℕ) {v : Device} {left : List (List ℕ)} {told : List Verdict} {s : CentralPhase} {j : J} →
+      Same i (Logon (place 0 0 a)) vs v → SameCentral i c s j → Calm (model_ends (device (loggingOn a) left told) s j) → (Logon (place 0 0 a) ≡ Stopped → ⊥) →
+      Leaves (follows i clean (at_step (Logon (place 0 0 a)) vs shown c n))
+  unfolding moves hears
+  logon_stop shown c n dev both is_logging_on moving =
+      follows_meant Leaves shown c n login moving (says_login (short i l) (plain i l)) dev both (rw match (goes_on_lem (goes (onwards i.job 0)) (onwards-goes i.job 0)))
 
   -- wherever it is, a device that stops reports ESC EOT
   clean_stop : {step : Step} {vs : List Verdict} (shown : Report) (c : Central J) (n : ℕ) {v : Device} {s : CentralPhase} {j : J} →
       Same i step vs v → SameCentral i c s j → Calm (model_ends v s j) → (step ≡ Stopped → ⊥) →
-      Leaves (follows i clean (record { step = step; verdicts = vs; report = shown; central = c; transmissions = n }))
+      Leaves (follows i clean (at_step step vs shown c n))
   unfolding moves hears
-  clean_stop shown c n same-opening both (is-opening at_idle) moving = follows_meant Leaves shown c n hello moving says_hello same-opening both (goes_on_lem (goes (Logon first)) refl)
-  clean_stop shown c n same-opening both (is-opening at-logon) moving = follows_meant Leaves shown c n hello moving says_hello same-opening both (goes_on_lem (goes (Logon first)) refl)
-  clean_stop shown c n same-opening both (is-opening (at-closed q)) moving = absurd (q tt)
-  clean_stop shown c n same-logon both is_logging_on moving =
-      follows_meant Leaves shown c n login moving (says_login (short i l) (plain i l)) same-logon both (rw match (goes_on_lem (goes (onwards i.job 0)) (onwards-goes i.job 0)))
+  clean_stop shown c n same-opening both g moving = opening_stop shown c n same-opening both g moving
+  clean_stop shown c n same-logon both g moving = logon_stop shown c n same-logon both g moving
   clean_stop shown c n (same-sending {n = t} {k = k} {a = a} {b = b} x y) both (is-sending {p = p} {j = j} m r u q) moving =
       let (block, fits, right) = same_block i l.job x y in
       follows_meant Leaves shown c n (carries b) moving (rw block (says_block b fits right)) (same-sending x y) both

@@ -15,7 +15,7 @@ use Rattle.reply.proofs.GrammarLaws.{flipped_unrecognized}
 use Rattle.line.proofs.OutcomeLaws.{choice}
 use Rattle.central.proofs.AnswerLaws.{answer-seven}
 use Rattle.central.proofs.HearingLaws.{flipped_noise}
-use Rattle.central.specs.Reaction.{nothing, answer_text}
+use Rattle.central.specs.Reaction.{answer_text}
 use Rattle.device.proofs.StringLaws.{string-seven}
 use Rattle.demand.specs.Demand.{Legal, Replaced, Unheard, NoReply, FairAt, FairFor, Fair}
 use Rattle.demand.specs.Faults.{garbled, damage, damages, damages_from, faulted}

@@ -16,7 +16,6 @@ use Rattle.device.proofs.SettlingLaws.{confirmed-stands, early_stands, moves-con
 use Rattle.device.specs.Reaction.{Move}
 use Rattle.device.specs.Settling.{doubted, is_stopped, settled, standing_at, with_confirmation}
 use Rattle.device.specs.declared.settling.Standing.{Standing}
-use Rattle.device.specs.declared.settling.Standing.TheVariants as Standing
 use Rattle.device.specs.declared.state.Confirmation.{Confirmation}
 use Rattle.device.specs.declared.state.Confirmation.TheVariants.{Early}
 use Rattle.device.specs.declared.state.Given.TheVariants as Giving

@@ -15,7 +15,7 @@ use Rattle.device.specs.declared.state.Verdict.{Verdict}
 use Rattle.device.specs.declared.state.Verdict.TheVariants.{Accepted, Rejected, Unconfirmed, Deferred}
 use Rattle.demand.specs.Demand.{Undecided}
 use Rattle.demand.proofs.Messages.{last, Parameters, Limits, hello, login, bye, carries, ◌is◌, refused, Effect, whole, lost, garbled, Effects, effects, arrives, returns}
-use Rattle.demand.proofs.Model.{CentralPhase, idle, closed, logon, blocks, Response, takes, failure, hears, opening, loggingOn, closing, sending, stopped, Device, device, begin, acked, reads, ModelEnds, model_ends, answered, sent, exchange, run, start, played, halts_at}
+use Rattle.demand.proofs.Model.{CentralPhase, idle, closed, logon, blocks, Response, takes, failure, hears, opening, loggingOn, closing, sending, stopped, Device, device, begin, acked, reads, ModelEnds, model_ends, answered, sent, exchange, run, played, halts_at}
 use Rattle.demand.specs.Clean.{all_judged, judged, stored}
 use Rattle.demand.proofs.CleanModel.{judged_by, stored_by, all_judged_by}
 use Rattle.demand.proofs.Claim.{Laws, Pieces, final, piece, WellCut, cut-next}
