@@ -1,20 +1,16 @@
 -- `put_block` meets its contract: the characters that it cuts from the line are those of the block at the index.
-use Rattle.listing.proofs.ListingLaws.{Good, line-good, part_cut, part-segment}
+use Rattle.listing.proofs.ListingLaws.{line-good, part_cut, part-segment}
 use borrow.Author.Rules.{rules}
 use Rattle.listing.proofs.put_block.Goals as goal
 use Rattle.listing.proofs.put_block.Goals.{Start}
 
--- what was tested of the line
-good : (s : Start) → Good s.args.line.now s.args.space
-good s = line-good s.args.line.now s.args.space s.requires.0
-
 pub put_part-requires : goal.put_part-requires
 put_part-requires c =
-    let good : Good c.args.line.now c.args.space = line-good c.args.line.now c.args.space c.requires.0 in
+    let good = line-good c.args.line.now c.args.space c.requires.0 in
     (part_cut c.args.line.now c.args.space c.args.index c.least-end.result c.place.result good c.requires.1 c.least-end.ensures c.place.ensures, search rules)
 
 pub returns : goal.returns
 returns c =
-    let good : Good c.args.line.now c.args.space = line-good c.args.line.now c.args.space c.requires.0 in
+    let good = line-good c.args.line.now c.args.space c.requires.0 in
     rw (part-segment c.args.line.now c.args.space c.args.index c.least-end.result c.place.result good c.requires.1 c.least-end.ensures c.place.ensures)
     c.put_part.ensures
