@@ -1,7 +1,6 @@
 -- `cuts_all` meets its contract: filled blocks cut every job; else the walk back from the trailer decides, and of what has none nothing is found.
-use mathlib.Core.Path.{◌≡◌, sym, ap, ◌∙◌}
-use Rattle.line.specs.Answer.{done}
-use Rattle.journal.specs.Walk.{opened_as, trailer}
+use mathlib.Core.Path.{sym, ap, ◌∙◌}
+use Rattle.journal.specs.Walk.{opened_as}
 use Rattle.journal.proofs.EncodingLaws.{trailer-inside}
 use Rattle.device.specs.Step.{cuts_all}
 use Rattle.device.proofs.CutLaws.{cuts_filled, cuts_newest}
@@ -14,15 +13,12 @@ returns-in_default c =
     sym (cuts_newest a.way a.job.now ∙ rw (sym c.open-opened.ensures ∙ ap opened_as c.in_default.is))
 
 pub cuts_from-requires : goal.cuts_from-requires
-cuts_from-requires c =
-    let opened : trailer c.args.job.now ≡ done c.in-At.position = sym c.open-opened.ensures ∙ ap opened_as c.in-At.is in
-    trailer-inside _ _ opened
+cuts_from-requires c = trailer-inside _ _ (sym c.open-opened.ensures ∙ ap opened_as c.in-At.is)
 
 pub returns-in-Filled : goal.returns-in-Filled
 returns-in-Filled c = rw c.in-Filled.is (sym (cuts_filled _))
 
 pub returns-in-At : goal.returns-in-At
 returns-in-At c =
-    let opened : trailer c.args.job.now ≡ done c.in-At.position = sym c.open-opened.ensures ∙ ap opened_as c.in-At.is in
     let a = c.args in
-    c.cuts_from.ensures ∙ sym (cuts_newest a.way a.job.now ∙ rw opened)
+    c.cuts_from.ensures ∙ sym (cuts_newest a.way a.job.now ∙ rw (sym c.open-opened.ensures ∙ ap opened_as c.in-At.is))

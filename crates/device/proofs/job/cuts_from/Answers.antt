@@ -5,40 +5,33 @@ use native.Mathlib.Omega.{arith}
 use Rattle.line.specs.Answer.{done}
 use Rattle.journal.specs.Cursor.{transaction_at, walk_from}
 use Rattle.journal.specs.Walk.{step_as, step_from}
-use Rattle.journal.proofs.CursorLaws.{Stepped, step-place}
+use Rattle.journal.proofs.CursorLaws.{step-place}
 use Rattle.segmentation.specs.Segmentation.{cuttable}
 use Rattle.device.proofs.CutLaws.{cuts_start, cuts_met, cuts_end, cuts_refused}
 use Rattle.device.proofs.job.cuts_from.Goals as goal
 
 pub overflow_add-end : goal.overflow_add-end
 overflow_add-end c =
-    let met : step_from c.args.job.now c.loop-place.at ≡ done (some c.in-Record.place) = sym c.step_back-step.ensures ∙ ap step_as c.in-Record.is in
-    let lies : Stepped c.args.job.now c.loop-place.at c.in-Record.place = step-place _ _ _ met in
-    let s = lies in
+    let lies = step-place c.args.job.now c.loop-place.at c.in-Record.place (sym c.step_back-step.ensures ∙ ap step_as c.in-Record.is) in
     omega arith
 
 pub slice_bounds-is_cuttable-end : goal.slice_bounds-is_cuttable-end
 slice_bounds-is_cuttable-end c =
-    let met : step_from c.args.job.now c.loop-place.at ≡ done (some c.in-Record.place) = sym c.step_back-step.ensures ∙ ap step_as c.in-Record.is in
-    let lies : Stepped c.args.job.now c.loop-place.at c.in-Record.place = step-place _ _ _ met in
-    let s = lies in
+    let lies = step-place c.args.job.now c.loop-place.at c.in-Record.place (sym c.step_back-step.ensures ∙ ap step_as c.in-Record.is) in
     omega arith
 
 pub loop-place-smaller : goal.loop-place-smaller
 loop-place-smaller c =
-    let met : step_from c.args.job.now c.loop-place.at ≡ done (some c.in-Record.place) = sym c.step_back-step.ensures ∙ ap step_as c.in-Record.is in
-    let lies : Stepped c.args.job.now c.loop-place.at c.in-Record.place = step-place _ _ _ met in
-    let s = lies in
+    let lies = step-place c.args.job.now c.loop-place.at c.in-Record.place (sym c.step_back-step.ensures ∙ ap step_as c.in-Record.is) in
     omega arith
 
 pub loop-place-preserved : goal.loop-place-preserved
 loop-place-preserved c =
-    let met : step_from c.args.job.now c.loop-place.at ≡ done (some c.in-Record.place) = sym c.step_back-step.ensures ∙ ap step_as c.in-Record.is in
-    let lies : Stepped c.args.job.now c.loop-place.at c.in-Record.place = step-place _ _ _ met in
-    let l = c.loop-place in
     let a = c.args in
+    let l = c.loop-place in
     let q = c.in-Record.place in
-    let s = lies in
+    let met : step_from a.job.now l.at ≡ done (some q) = sym c.step_back-step.ensures ∙ ap step_as c.in-Record.is in
+    let s = step-place a.job.now l.at q met in
     let part : q.start + q.length - q.start ≡ q.length = omega arith in
     let cut : c.is_cuttable-every.result ≡ cuttable a.way (transaction_at a.job.now q) = rw part at c.is_cuttable-every.ensures in
     (omega (arith, s.inside, s.back, s.next), l.invariant.1 ∙ cuts_met a.way a.job.now l.at l.every l.invariant.0 q met ∙ rw (← cut))

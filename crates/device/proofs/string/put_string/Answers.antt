@@ -1,12 +1,7 @@
 -- `put_string` meets its contract: each step's string is put out by its own function.
-use mathlib.Core.Bool.{true}
-use mathlib.Core.Path.{◌≡◌, refl}
-use Prim.Native.Nat.{◌<◌}
-use lib.ListN.{length}
+use mathlib.Core.Path.{refl}
 use Rattle.line.specs.Test.{all}
-use Rattle.line.specs.Transaction.{legal}
 use Rattle.line.proofs.LaidLaws.{laid_none}
-use Rattle.segmentation.specs.Segmentation.{cuttable, segmentation_by}
 use Rattle.device.specs.Reaction.{segments_of}
 use Rattle.device.proofs.WaitLaws.{waits-cut, waits-parts}
 use native.Mathlib.Omega.{arith}
@@ -19,14 +14,10 @@ put_text-requires c = (refl, omega arith)
 pub put_segment-requires : goal.put_segment-requires
 unfolding segments_of
 put_segment-requires c =
-    let placed : (let t = c.args.info.now in
-    let way = c.args.settings.way in
-    (legal t ≡ true) × (cuttable way t ≡ true) × (c.in-Sending.place.block < length (segmentation_by way t))) = (let (job, waits) = c.requires.1 in
+    let (job, waits) = c.requires.1 in
     let sends = rw c.in-Sending.is at waits in
     let (_, good, block) = waits-parts c.args.settings job c.in-Sending.place c.args.info.now sends in
-    (good, waits-cut c.args.settings job c.in-Sending.place c.args.info.now sends, block)) in
-    let (good, cut, block) = placed in
-    (good, cut, block, omega arith)
+    (good, waits-cut c.args.settings job c.in-Sending.place c.args.info.now sends, block, omega arith)
 
 pub put_text-requires-in-Closing : goal.put_text-requires-in-Closing
 unfolding all
