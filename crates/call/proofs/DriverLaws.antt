@@ -23,7 +23,7 @@ use Rattle.device.specs.Step as DeviceStep
 use Rattle.device.specs.declared.state.Report.TheVariants as Reporting
 use Rattle.demand.proofs.FinalLaws.{exchange-stands}
 use Rattle.demand.specs.Final.{standing_in}
-use Rattle.demand.specs.Run.{Transit, hit, Inputs, Ends, start, string, answer, responds, follows, exchange}
+use Rattle.demand.specs.Run.{Transit, hit, Inputs, Ends, start, string, responds, follows, exchange}
 use Rattle.call.specs.Call.{Transactions, Setup}
 use Rattle.call.specs.Driver.{job_of, inputs_from, Sound, Kept, Holds, opening, starting, central_steps, device_steps, Driven}
 
