@@ -2,16 +2,17 @@
 // `listing::list`; this program only moves bytes, in large pieces.
 #![tactic(auto)]
 
-ghost use Rattle.std.specs.Prelude.{List, [], ◌++◌, ◌≡◌, ℕ, ◌≤◌, length, take};
+ghost use Rattle.std.specs.Prelude.{List, [], ◌++◌, ◌≡◌, ℕ, ◌≤◌, length, take, IfOk, OnErr};
 ghost use Rattle.line.specs.Answer.{Laid};
 ghost use Rattle.listing.specs.Listing.{listing};
 ghost use Rattle.blocks.specs.Lines.{Listed, Took, Within, finished, nothing, stand, stays};
 
-use libc::{STDIN_FILENO, STDOUT_FILENO};
 use line::Written;
 use line::character::LF;
 use line::memory::{copy, find};
 use listing::{ROOM, list};
+use std::io;
+use std::io::{Read, Write};
 
 // The characters of a line that are kept. A line of so many is too long already, however many more
 // follow.
@@ -37,30 +38,38 @@ fn keep(part: &[u8], line: &mut [u8], kept: usize) -> usize
     kept + end
 }
 
-// Prints what a line prints, behind what waits; writes that out first where there is no room.
-fn print(line: &[u8], out: &mut [u8], waiting: usize) -> usize
+// Prints what a line prints, behind what waits; writes that out first where there is no room. Where
+// that fails, the buffer is as it was.
+fn print<W: Write>(to: &mut W, line: &[u8], out: &mut [u8], waiting: usize) -> io::Result<usize>
     requires { (waiting ≤ length out.old) × (10248 ≤ length out.old) }
-    ensures { Laid
+    ensures ok { IfOk result (λ n. Laid
         (stays (length out.old) (take waiting out.old) ++ listing line.now)
-        result out.old out.new }
+        n out.old out.new) }
+    ensures err { OnErr result (out.new ≡ out.old) }
 {
     let mut at = waiting;
     if out.len() < at + ROOM {
-        io::write_all(STDOUT_FILENO, &out[..at]);
+        to.write_all(&out[..at])?;
         at = 0;
     }
     match list(line, &mut out[at..]) {
-        Written::Count(n) => at + n,
-        Written::Refused(_) => at,
+        Written::Count(n) => Ok(at + n),
+        Written::Refused(_) => Ok(at),
     }
 }
 
 // One piece of the input: each line that ends in it is printed, and the start of the next is kept.
-fn take(piece: &[u8], line: &mut [u8], out: &mut [u8], filled: Filled) -> Filled
+fn take<W: Write>(
+    to: &mut W,
+    piece: &[u8],
+    line: &mut [u8],
+    out: &mut [u8],
+    filled: Filled,
+) -> io::Result<Filled>
     requires { Within filled line.old out.old }
-    ensures { Took
+    ensures { IfOk result (λ now. Took
         piece.now
-        line.old out.old line.new out.new filled result }
+        line.old out.old line.new out.new filled now) }
 {
     let mut kept = filled.kept;
     let mut waiting = filled.waiting;
@@ -70,22 +79,28 @@ fn take(piece: &[u8], line: &mut [u8], out: &mut [u8], filled: Filled) -> Filled
         kept = keep(&piece[at..end], line, kept);
         at = end;
         if end < piece.len() {
-            waiting = print(&line[..kept], out, waiting);
+            waiting = print(to, &line[..kept], out, waiting)?;
             kept = 0;
             at = end + 1;
         }
     }
-    Filled { kept, waiting }
+    Ok(Filled { kept, waiting })
 }
 
 // Takes the input piece by piece, to its end. What is left is as if it were one text, which no
 // contract can name. A proved loop has to end, and nothing says that the input does, so the loop
 // counts its turns down from a number that no run uses up.
-fn take_all(piece: &mut [u8], line: &mut [u8], out: &mut [u8]) -> Filled
+fn take_all<R: Read, W: Write>(
+    from: &mut R,
+    to: &mut W,
+    piece: &mut [u8],
+    line: &mut [u8],
+    out: &mut [u8],
+) -> io::Result<Filled>
     requires { (length line.old ≡ 2000) × (10248 ≤ length out.old) }
-    ensures { (text : List ℕ) × Took
+    ensures { IfOk result (λ now. (text : List ℕ) × Took
         text
-        line.old out.old line.new out.new nothing result }
+        line.old out.old line.new out.new nothing now) }
 {
     let mut filled = Filled {
         kept: 0,
@@ -93,45 +108,55 @@ fn take_all(piece: &mut [u8], line: &mut [u8], out: &mut [u8]) -> Filled
     };
     let mut turns = u64::MAX;
     while turns > 0 {
-        let got = libc::read(STDIN_FILENO, piece);
-        if got <= 0 {
+        let n = from.read(piece)?;
+        if n == 0 {
             break;
         }
-        let n = io::count(got, piece);
-        filled = take(&piece[..n], line, out, filled);
+        filled = take(to, &piece[..n], line, out, filled)?;
         turns -= 1;
     }
-    filled
+    Ok(filled)
 }
 
 // Prints the last line, where no LF ended it.
-fn finish(line: &[u8], out: &mut [u8], filled: Filled) -> usize
+fn finish<W: Write>(to: &mut W, line: &[u8], out: &mut [u8], filled: Filled) -> io::Result<usize>
     requires { Within filled line.now out.old }
-    ensures { Laid
+    ensures ok { IfOk result (λ n. Laid
         (finished (length out.old) (stand [] filled line.now out.old)).waits
-        result out.old out.new }
+        n out.old out.new) }
+    ensures err { OnErr result (out.new ≡ out.old) }
 {
     let kept = filled.kept;
     let waiting = filled.waiting;
     if 0 < kept {
-        return print(&line[..kept], out, waiting);
+        return print(to, &line[..kept], out, waiting);
     }
-    waiting
+    Ok(waiting)
 }
 
 // Prints all lines of the input. How many bytes wait at the end, behind what was written out.
-fn print_all(out: &mut [u8]) -> usize
+fn print_all<R: Read, W: Write>(from: &mut R, to: &mut W, out: &mut [u8]) -> io::Result<usize>
     requires { 10248 ≤ length out.old }
-    ensures { Listed out.old out.new result }
+    ensures { IfOk result (λ waiting. Listed out.old out.new waiting) }
 {
-    let mut piece = io::large_buffer();
+    let mut piece = large_buffer();
     let mut line = [0u8; KEPT];
-    let filled = take_all(&mut piece, &mut line, out);
-    finish(&line, out, filled)
+    let filled = take_all(from, to, &mut piece, &mut line, out)?;
+    finish(to, &line, out, filled)
 }
 
-fn main() {
-    let mut out = io::large_buffer();
-    let waiting = print_all(&mut out);
-    io::write_all(STDOUT_FILENO, &out[..waiting]);
+// Room for a large piece of what is read or written. The `ensures` gives only the length, which
+// lending the array needs.
+fn large_buffer() -> [u8; 65536]
+    ensures { 65536 ≡ length result }
+{
+    [0; 65536]
+}
+
+fn main(rt: HostRuntime) -> io::Result<()> {
+    let mut from = rt.reader();
+    let mut to = io::writer(&rt);
+    let mut out = large_buffer();
+    let waiting = print_all(&mut from, &mut to, &mut out)?;
+    to.write_all(&out[..waiting])
 }

@@ -2,43 +2,45 @@
 use crate::argument::byte;
 use crate::names;
 use crate::names::{DASH, REFUSED, SPACE, say};
-use libc::STDOUT_FILENO;
 use line::Refusal;
 use reply::{Meaning, Reply};
+use std::io;
+use std::io::Write;
 use std::num::wrapping_add_usize;
 
 // What the sum of a digest is reduced by.
 const MODULUS: usize = 1000003;
 
 // A number in decimal.
-pub(crate) fn print_number(before: u8, n: usize) {
-    say(before);
-    io::print_decimal(STDOUT_FILENO, n as u64);
+pub(crate) fn print_number<W: Write>(to: &mut W, before: u8, n: usize) -> io::Result<()> {
+    say(to, before)?;
+    write!(to, "{n}")
 }
 
 // Bytes in hex; no bytes are `-`.
-pub(crate) fn print_bytes(before: u8, bytes: &[u8]) {
-    say(before);
+pub(crate) fn print_bytes<W: Write>(to: &mut W, before: u8, bytes: &[u8]) -> io::Result<()> {
+    say(to, before)?;
     if bytes.len() == 0 {
-        say(DASH);
+        say(to, DASH)?;
     }
     let mut i = 0;
     while i < bytes.len() {
-        io::print_hex(STDOUT_FILENO, byte(bytes, i) as u64, 2);
+        write!(to, "{:02x}", byte(bytes, i))?;
         i += 1;
     }
+    Ok(())
 }
 
 // How many bytes, and these.
-pub(crate) fn print_counted(before: u8, bytes: &[u8]) {
-    print_number(before, bytes.len());
-    print_bytes(SPACE, bytes);
+pub(crate) fn print_counted<W: Write>(to: &mut W, before: u8, bytes: &[u8]) -> io::Result<()> {
+    print_number(to, before, bytes.len())?;
+    print_bytes(to, SPACE, bytes)
 }
 
 // Long bytes by their number and a sum that tells places apart.
-pub(crate) fn print_digest(before: u8, bytes: &[u8]) {
-    print_number(before, bytes.len());
-    print_number(SPACE, digest(bytes));
+pub(crate) fn print_digest<W: Write>(to: &mut W, before: u8, bytes: &[u8]) -> io::Result<()> {
+    print_number(to, before, bytes.len())?;
+    print_number(to, SPACE, digest(bytes))
 }
 
 // The sum of the bytes, each times its place from 1: the sum of the sums from each place on.
@@ -54,8 +56,8 @@ fn digest(bytes: &[u8]) -> usize {
     sums % MODULUS
 }
 
-pub(crate) fn print_refusal(refusal: Refusal) {
-    print_number(REFUSED, line::answer::number(refusal) as usize);
+pub(crate) fn print_refusal<W: Write>(to: &mut W, refusal: Refusal) -> io::Result<()> {
+    print_number(to, REFUSED, line::answer::number(refusal) as usize)
 }
 
 pub(crate) fn reply_name(reply: Reply) -> u8 {

@@ -28,6 +28,8 @@ use line::{Checked, Written};
 use reassembly::{Reassembled, Reassembly, reassemble};
 use reply::remarks::read_remarks;
 use segmentation::{Way, block_count, write_segment, write_segments};
+use std::io;
+use std::io::Write;
 use std::num::wrapping_add_usize;
 
 // What an output holds before a step.
@@ -44,25 +46,25 @@ struct Loan {
 }
 
 // What comes of a call.
-pub(crate) fn print_answer(call: &[u8]) {
+pub(crate) fn print_answer<W: Write>(to: &mut W, call: &[u8]) -> io::Result<()> {
     let text = text(call);
     match letter_of(call) {
-        b'c' => print_checksum(text),
-        b'b' => print_sums(call),
-        b'r' => print_block(text),
-        b'y' => say(reply_name(reply::read(text))),
-        b'h' => print_remarks(NOTHING, read_remarks(text)),
-        b'j' => print_reassembly(call),
-        b'k' => print_check(text),
-        b'v' => print_walk(text),
-        b'n' => print_bytes(NOTHING, newest(text, number(call, 1))),
-        b'o' => print_bytes(NOTHING, oldest(text, number(call, 1))),
-        _ => lend(call),
+        b'c' => print_checksum(to, text),
+        b'b' => print_sums(to, call),
+        b'r' => print_block(to, text),
+        b'y' => say(to, reply_name(reply::read(text))),
+        b'h' => print_remarks(to, NOTHING, read_remarks(text)),
+        b'j' => print_reassembly(to, call),
+        b'k' => print_check(to, text),
+        b'v' => print_walk(to, text),
+        b'n' => print_bytes(to, NOTHING, newest(text, number(call, 1))),
+        b'o' => print_bytes(to, NOTHING, oldest(text, number(call, 1))),
+        _ => lend(to, call),
     }
 }
 
 // Lends the memory of a call; its fourth argument may be a pager list.
-fn lend(call: &[u8]) {
+fn lend<W: Write>(to: &mut W, call: &[u8]) -> io::Result<()> {
     let loan = loan_of(call);
     let size = loan.size;
     let room = loan.room;
@@ -72,7 +74,13 @@ fn lend(call: &[u8]) {
     let numbers = word(call, 4);
     let pagers = list_pagers(numbers);
     let n = numbers.len() / 4 % (PAGERS + 1);
-    print_lent(call, &pagers[0..n], &mut memory[0..size], &mut out[0..room]);
+    print_lent(
+        to,
+        call,
+        &pagers[0..n],
+        &mut memory[0..size],
+        &mut out[0..room],
+    )
 }
 
 // So many bytes of one kind. The `ensures` gives only the length, which lending the array needs.
@@ -150,30 +158,41 @@ fn output_of(room: usize) -> Loan
 }
 
 // What comes of a call in the memory that it lends.
-fn print_lent(call: &[u8], pagers: &[u32], memory: &mut [u8], out: &mut [u8]) {
+fn print_lent<W: Write>(
+    to: &mut W,
+    call: &[u8],
+    pagers: &[u32],
+    memory: &mut [u8],
+    out: &mut [u8],
+) -> io::Result<()> {
     match letter_of(call) {
-        b'd' | b'f' => print_conversation(call, pagers, memory, out),
-        b'u' => print_run(call, pagers, memory, out),
-        b'e' | b'g' | b'x' => print_play(call, out),
-        b'l' => print_driver(call, memory, out),
-        b'm' => print_framing(call, out),
-        b'z' => print_gateway(call, pagers, memory, out),
-        b'i' => print_settled(call, memory),
-        _ => print_output(call, memory),
+        b'd' | b'f' => print_conversation(to, call, pagers, memory, out),
+        b'u' => print_run(to, call, pagers, memory, out),
+        b'e' | b'g' | b'x' => print_play(to, call, out),
+        b'l' => print_driver(to, call, memory, out),
+        b'm' => print_framing(to, call, out),
+        b'z' => print_gateway(to, call, pagers, memory, out),
+        b'i' => print_settled(to, call, memory),
+        _ => print_output(to, call, memory),
     }
 }
 
 // What a writer wrote into the memory, or why nothing.
-fn print_output(call: &[u8], memory: &mut [u8]) {
+fn print_output<W: Write>(to: &mut W, call: &[u8], memory: &mut [u8]) -> io::Result<()> {
     let written = write(call, text(call), memory);
-    print_outcome(call, written, memory);
+    print_outcome(to, call, written, memory)
 }
 
 // The bytes that were put out at the start of the memory, or why none.
-pub(crate) fn print_outcome(call: &[u8], outcome: Written, memory: &[u8]) {
+pub(crate) fn print_outcome<W: Write>(
+    to: &mut W,
+    call: &[u8],
+    outcome: Written,
+    memory: &[u8],
+) -> io::Result<()> {
     match outcome {
-        Written::Count(n) => print_written(call, part(memory, 0, n)),
-        Written::Refused(refusal) => print_refusal(refusal),
+        Written::Count(n) => print_written(to, call, part(memory, 0, n)),
+        Written::Refused(refusal) => print_refusal(to, refusal),
     }
 }
 
@@ -191,49 +210,49 @@ fn write(call: &[u8], text: &[u8], memory: &mut [u8]) -> Written {
 
 // The number of blocks before all blocks of a transaction, a journal by its digest, what an end of
 // the line puts out without its length, and not at all to a driver.
-fn print_written(call: &[u8], written: &[u8]) {
+fn print_written<W: Write>(to: &mut W, call: &[u8], written: &[u8]) -> io::Result<()> {
     match letter_of(call) {
-        b'd' | b'e' | b'f' | b'g' => print_bytes(NOTHING, written),
-        b'l' => {}
+        b'd' | b'e' | b'f' | b'g' => print_bytes(to, NOTHING, written),
+        b'l' => Ok(()),
         b's' => {
-            print_number(NOTHING, block_count(way_of(call), text(call)));
-            print_blocks(names::COLON, way_of(call), written);
+            print_number(to, NOTHING, block_count(way_of(call), text(call)))?;
+            print_blocks(to, names::COLON, way_of(call), written)
         }
-        b't' => print_blocks(NOTHING, way_of(call), written),
-        b'a' => print_digest(NOTHING, written),
-        _ => print_counted(NOTHING, written),
+        b't' => print_blocks(to, NOTHING, way_of(call), written),
+        b'a' => print_digest(to, NOTHING, written),
+        _ => print_counted(to, NOTHING, written),
     }
 }
 
 // Blocks: of whole fields by their digest, filled ones byte for byte.
-fn print_blocks(before: u8, way: Way, blocks: &[u8]) {
+fn print_blocks<W: Write>(to: &mut W, before: u8, way: Way, blocks: &[u8]) -> io::Result<()> {
     match way {
-        Way::WholeFields => print_digest(before, blocks),
-        Way::Filled => print_counted(before, blocks),
+        Way::WholeFields => print_digest(to, before, blocks),
+        Way::Filled => print_counted(to, before, blocks),
     }
 }
 
 // The checksum, and the characters that carry it.
-fn print_checksum(text: &[u8]) {
-    print_number(NOTHING, checksum(text) as usize);
+fn print_checksum<W: Write>(to: &mut W, text: &[u8]) -> io::Result<()> {
+    print_number(to, NOTHING, checksum(text) as usize)?;
     let check = check_characters(text);
-    print_bytes(SPACE, &check);
+    print_bytes(to, SPACE, &check)
 }
 
 // The sum that the first argument is, with the pieces behind it: the sum after each, and the
 // characters that carry the last.
-fn print_sums(call: &[u8]) {
+fn print_sums<W: Write>(to: &mut W, call: &[u8]) -> io::Result<()> {
     let count = byte(call, COUNT);
     let mut sum = number(call, 1) as u16;
     let mut index = 1;
     while index < count {
         index += 1;
         sum = add_piece(sum, word(call, index));
-        print_number(NOTHING, sum as usize);
-        say(SPACE);
+        print_number(to, NOTHING, sum as usize)?;
+        say(to, SPACE)?;
     }
     let check = sum_characters(sum);
-    print_bytes(NOTHING, &check);
+    print_bytes(to, NOTHING, &check)
 }
 
 // The sum with a piece more, a character at a time.
@@ -248,11 +267,11 @@ fn add_piece(sum: u16, piece: &[u8]) -> u16 {
 }
 
 // The ending and the information of the block that the text is.
-fn print_block(text: &[u8]) {
+fn print_block<W: Write>(to: &mut W, text: &[u8]) -> io::Result<()> {
     let reading = block::frame::read(text);
     match reading {
-        Reading::Block(ending) => print_counted(ending_name(ending), information(text)),
-        Reading::Refused(refusal) => print_refusal(refusal),
+        Reading::Block(ending) => print_counted(to, ending_name(ending), information(text)),
+        Reading::Refused(refusal) => print_refusal(to, refusal),
     }
 }
 
@@ -275,78 +294,87 @@ fn ending_of(call: &[u8]) -> Ending {
 
 // The blocks that the arguments are, joined one after the other: what comes of each, and what is
 // held at the end.
-fn print_reassembly(call: &[u8]) {
+fn print_reassembly<W: Write>(to: &mut W, call: &[u8]) -> io::Result<()> {
     let mut memory = [0; 2000];
     let count = byte(call, COUNT);
     let mut state = reassembly::start();
     let mut index = 0;
     while index < count {
         if 0 < index {
-            say(COMMA);
+            say(to, COMMA)?;
         }
         index += 1;
-        state = join(word(call, index), state, &mut memory);
+        state = join(to, word(call, index), state, &mut memory)?;
     }
-    print_bytes(SPACE, part(&memory, 0, state.length));
+    print_bytes(to, SPACE, part(&memory, 0, state.length))
 }
 
 // One block more; a block that is refused changes nothing.
-fn join(block: &[u8], state: Reassembly, memory: &mut [u8]) -> Reassembly {
+fn join<W: Write>(
+    to: &mut W,
+    block: &[u8],
+    state: Reassembly,
+    memory: &mut [u8],
+) -> io::Result<Reassembly> {
     let joined = reassemble(state, block, memory);
     match joined {
         Reassembled::Next(next) => {
-            print_number(NOTHING, next.length);
-            say(if next.complete {
-                names::WHOLE
-            } else {
-                names::PART
-            });
-            next
+            print_number(to, NOTHING, next.length)?;
+            say(
+                to,
+                if next.complete {
+                    names::WHOLE
+                } else {
+                    names::PART
+                },
+            )?;
+            Ok(next)
         }
         Reassembled::Refused(refusal) => {
-            print_refusal(refusal);
-            state
+            print_refusal(to, refusal)?;
+            Ok(state)
         }
     }
 }
 
 // The number of records of the journal that the text is.
-fn print_check(text: &[u8]) {
+fn print_check<W: Write>(to: &mut W, text: &[u8]) -> io::Result<()> {
     let checked = journal::record::check(text);
     match checked {
-        Checked::Count(n) => print_number(NOTHING, n),
-        Checked::Refused(refusal) => print_refusal(refusal),
+        Checked::Count(n) => print_number(to, NOTHING, n),
+        Checked::Refused(refusal) => print_refusal(to, refusal),
     }
 }
 
 // The records of the journal that the text is, from the newest back, as the cursor that holds it
 // meets them; and how the walk ends.
-fn print_walk(text: &[u8]) {
+fn print_walk<W: Write>(to: &mut W, text: &[u8]) -> io::Result<()> {
     let mut index = 0;
     while index <= RECORDS {
-        if !print_place(text, step_at(text, index)) {
-            return;
+        if !print_place(to, text, step_at(text, index))? {
+            return Ok(());
         }
         index += 1;
     }
+    Ok(())
 }
 
 // The record that a walk stands at, or why it has ended; and whether it goes on.
-fn print_place(journal: &[u8], at: Step) -> bool {
+fn print_place<W: Write>(to: &mut W, journal: &[u8], at: Step) -> io::Result<bool> {
     match at {
         Step::Record(place) => {
             let end = wrapping_add_usize(place.start, place.length);
-            print_bytes(NOTHING, part(journal, place.start, end));
-            say(SPACE);
-            true
+            print_bytes(to, NOTHING, part(journal, place.start, end))?;
+            say(to, SPACE)?;
+            Ok(true)
         }
         Step::End => {
-            say(names::END);
-            false
+            say(to, names::END)?;
+            Ok(false)
         }
         Step::Refused(refusal) => {
-            print_refusal(refusal);
-            false
+            print_refusal(to, refusal)?;
+            Ok(false)
         }
     }
 }

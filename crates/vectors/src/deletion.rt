@@ -5,9 +5,10 @@ use crate::ends::{saved_central, stage_name};
 use crate::names::{NOTHING, SPACE, TIMES, say};
 use central::step::{control_of, join};
 use central::{State, Stepped};
-use libc::STDOUT_FILENO;
 use line::Written;
 use line::memory::is_same;
+use std::io;
+use std::io::Write;
 use std::num::{wrapping_add_usize, wrapping_sub_usize};
 
 // Which argument the bytes at the start of the journal's buffer are.
@@ -23,26 +24,36 @@ const LENGTH: u8 = 12;
 const FEW: usize = 7;
 
 // What comes of each deletion.
-pub(crate) fn print_deletions(call: &[u8], journal: &mut [u8]) {
+pub(crate) fn print_deletions<W: Write>(
+    to: &mut W,
+    call: &[u8],
+    journal: &mut [u8],
+) -> io::Result<()> {
     let count = byte(call, COUNT);
     let mut index = LENGTH;
     while index < count {
-        say((LENGTH < index) as u8);
+        say(to, (LENGTH < index) as u8)?;
         index += 1;
-        print_deletion(call, word(call, index), journal);
+        print_deletion(to, call, word(call, index), journal)?;
     }
+    Ok(())
 }
 
 // The outcome of a deletion, the state behind it, and what it changed in the buffer.
-fn print_deletion(call: &[u8], deletion: &[u8], journal: &mut [u8]) {
+fn print_deletion<W: Write>(
+    to: &mut W,
+    call: &[u8],
+    deletion: &[u8],
+    journal: &mut [u8],
+) -> io::Result<()> {
     let begin = word(call, JOURNAL);
     lay(begin, journal);
     let state = saved_central(call, STAGE);
     let deleted = delete_by(deletion, state, journal);
     let outcome = deleted.outcome;
-    print_count(outcome);
-    print_state(state, deleted.state);
-    print_change(begin, journal);
+    print_count(to, outcome)?;
+    print_state(to, state, deleted.state)?;
+    print_change(to, begin, journal)
 }
 
 // Lends the buffer anew.
@@ -90,53 +101,55 @@ fn wide(deletion: &[u8]) -> usize {
     n
 }
 
-fn print_count(outcome: Written) {
+fn print_count<W: Write>(to: &mut W, outcome: Written) -> io::Result<()> {
     match outcome {
-        Written::Count(n) => print_number(NOTHING, n),
-        Written::Refused(refusal) => print_refusal(refusal),
+        Written::Count(n) => print_number(to, NOTHING, n),
+        Written::Refused(refusal) => print_refusal(to, refusal),
     }
 }
 
 // The stage, the failures, the length of what is unfinished, whether its memory is the same as before,
 // and the journal's length.
-fn print_state(before: State, state: State) {
+fn print_state<W: Write>(to: &mut W, before: State, state: State) -> io::Result<()> {
     let stage = state.stage;
     let old = before.pending;
     let pending = state.pending;
-    print_number(stage_name(stage), state.failures);
-    print_number(SPACE, state.length);
-    print_number(SPACE, is_same(&old, &pending) as usize);
-    print_number(SPACE, state.journal);
-    say(SPACE);
+    print_number(to, stage_name(stage), state.failures)?;
+    print_number(to, SPACE, state.length)?;
+    print_number(to, SPACE, is_same(&old, &pending) as usize)?;
+    print_number(to, SPACE, state.journal)?;
+    say(to, SPACE)
 }
 
 // Every byte of the buffer, XORed with the one that was lent: in hex, many of a kind as one and how
 // many.
-fn print_change(begin: &[u8], journal: &[u8]) {
+fn print_change<W: Write>(to: &mut W, begin: &[u8], journal: &[u8]) -> io::Result<()> {
     let mut from = 0;
     while from < journal.len() {
         let next = print_run(
+            to,
             turned(begin, journal, from),
             from,
             run_end(begin, journal, from),
-        );
+        )?;
         if next <= from {
-            return;
+            return Ok(());
         }
         from = next;
     }
+    Ok(())
 }
 
 // The bytes of a kind between two places, or the first of them where they are few; where the rest begins.
-fn print_run(byte: u8, from: usize, end: usize) -> usize {
+fn print_run<W: Write>(to: &mut W, byte: u8, from: usize, end: usize) -> io::Result<usize> {
     let count = wrapping_sub_usize(end, from);
-    io::print_hex(STDOUT_FILENO, byte as u64, 2);
+    write!(to, "{byte:02x}")?;
     if count <= FEW {
-        return wrapping_add_usize(from, 1);
+        return Ok(wrapping_add_usize(from, 1));
     }
-    say(TIMES);
-    io::print_hex(STDOUT_FILENO, count as u64, 4);
-    end
+    say(to, TIMES)?;
+    write!(to, "{count:04x}")?;
+    Ok(end)
 }
 
 // Where the bytes of a kind that begin at a place end.

@@ -12,6 +12,8 @@ use device::state::verdict_number;
 use device::{Given, Standing};
 use journal::record::check;
 use line::answer::checked_count;
+use std::io;
+use std::io::Write;
 
 // How many transactions the job has: so many verdicts the driver keeps.
 pub(crate) fn transactions(call: &[u8]) -> usize
@@ -22,34 +24,40 @@ pub(crate) fn transactions(call: &[u8]) -> usize
 
 // How the accepted verdicts stand behind each reply, or why the entry device does not start; and all
 // verdicts at the end.
-pub(crate) fn print_driver(call: &[u8], string: &mut [u8], verdicts: &mut [u8]) {
+pub(crate) fn print_driver<W: Write>(
+    to: &mut W,
+    call: &[u8],
+    string: &mut [u8],
+    verdicts: &mut [u8],
+) -> io::Result<()> {
     let count = byte(call, COUNT);
-    let begun = begin(call, string);
+    let begun = begin(to, call, string)?;
     let mut state = begun.state;
     let mut index = begun.before;
     while index < count {
         index += 1;
-        state = drive(call, word(call, index), state, string, verdicts);
+        state = drive(to, call, word(call, index), state, string, verdicts)?;
     }
-    print_bytes(SPACE, verdicts);
+    print_bytes(to, SPACE, verdicts)
 }
 
 // The step of the entry device over a reply: the verdict that it gives is noted, and all are settled.
-fn drive(
+fn drive<W: Write>(
+    to: &mut W,
     call: &[u8],
     reply: &[u8],
     state: device::State,
     string: &mut [u8],
     verdicts: &mut [u8],
-) -> device::State {
+) -> io::Result<device::State> {
     let settings = device_settings(call, 1);
     let stepped = device::step::step(state, settings, word(call, JOB), reply, string);
     let given = stepped.given;
     let standing = stepped.standing;
     note(given, verdicts);
     settle(standing, verdicts);
-    say(standing_name(standing));
-    stepped.state
+    say(to, standing_name(standing))?;
+    Ok(stepped.state)
 }
 
 // A verdict that is given is put in its place.
@@ -73,9 +81,13 @@ fn standing_name(standing: Standing) -> u8 {
 }
 
 // The bytes in the memory, settled as the first argument says.
-pub(crate) fn print_settled(call: &[u8], memory: &mut [u8]) {
+pub(crate) fn print_settled<W: Write>(
+    to: &mut W,
+    call: &[u8],
+    memory: &mut [u8],
+) -> io::Result<()> {
     settle(standing_of(byte(word(call, 1), 0)), memory);
-    print_bytes(NOTHING, memory);
+    print_bytes(to, NOTHING, memory)
 }
 
 fn standing_of(letter: u8) -> Standing {

@@ -14,6 +14,8 @@ use device::{Given, Place, Report, Step};
 use line::Password;
 use line::answer::code;
 use line::memory::copy;
+use std::io;
+use std::io::Write;
 use std::num::wrapping_add_u8;
 
 // Which argument the journal is: the last before the strings, or before the central's state.
@@ -59,23 +61,24 @@ pub(crate) fn list_pagers(numbers: &[u8]) -> [u32; PAGERS] {
 }
 
 // What the central answers to each string, and the state behind the last.
-pub(crate) fn print_conversation(
+pub(crate) fn print_conversation<W: Write>(
+    to: &mut W,
     call: &[u8],
     pagers: &[u32],
     journal: &mut [u8],
     answer: &mut [u8],
-) {
+) -> io::Result<()> {
     let count = byte(call, COUNT);
     let heard = first_heard(call);
     let before = heard.before;
     let mut state = heard.state;
     let mut index = before;
     while index < count {
-        say((before < index) as u8);
+        say(to, (before < index) as u8)?;
         index += 1;
-        state = hear(call, word(call, index), state, pagers, journal, answer);
+        state = hear(to, call, word(call, index), state, pagers, journal, answer)?;
     }
-    print_central(call, state, journal, answer);
+    print_central(to, call, state, journal, answer)
 }
 
 // From the start, or from the state that the call gives.
@@ -118,25 +121,26 @@ fn stage_of(letter: u8) -> Stage {
 
 // The step of the central over a string. Two bytes FF stand for the driver's word that the line was
 // dropped.
-fn hear(
+fn hear<W: Write>(
+    to: &mut W,
     call: &[u8],
     string: &[u8],
     state: central::State,
     pagers: &[u32],
     journal: &mut [u8],
     answer: &mut [u8],
-) -> central::State {
+) -> io::Result<central::State> {
     let settings = central_settings(call);
     if (string.len() == 2) & (number_at(string, 0) == 0xFFFF) {
         let dropped = central::step::hang_up(state, settings);
         let outcome = dropped.outcome;
-        print_outcome(call, outcome, string);
-        return dropped.state;
+        print_outcome(to, call, outcome, string)?;
+        return Ok(dropped.state);
     }
     let stepped = central::step::step(state, settings, pagers, journal, string, answer);
     let outcome = stepped.outcome;
-    print_outcome(call, outcome, answer);
-    stepped.state
+    print_outcome(to, call, outcome, answer)?;
+    Ok(stepped.state)
 }
 
 // The central's settings: the first three arguments.
@@ -165,18 +169,25 @@ fn password(text: &[u8]) -> Password {
 
 // The stage, the failures, the length of what is unfinished, and the journal by its digest; where the
 // call gave the state, also the unfinished information and the buffers.
-fn print_central(call: &[u8], state: central::State, journal: &[u8], answer: &[u8]) {
+fn print_central<W: Write>(
+    to: &mut W,
+    call: &[u8],
+    state: central::State,
+    journal: &[u8],
+    answer: &[u8],
+) -> io::Result<()> {
     let stage = state.stage;
-    print_number(stage_name(stage), state.failures);
-    print_number(SPACE, state.length);
-    print_digest(SPACE, part(journal, 0, state.journal));
+    print_number(to, stage_name(stage), state.failures)?;
+    print_number(to, SPACE, state.length)?;
+    print_digest(to, SPACE, part(journal, 0, state.journal))?;
     if letter_of(call) == b'f' {
         let pending = state.pending;
-        print_number(SPACE, state.journal);
-        print_digest(SPACE, part(&pending, 0, state.length));
-        print_digest(SPACE, journal);
-        print_digest(SPACE, answer);
+        print_number(to, SPACE, state.journal)?;
+        print_digest(to, SPACE, part(&pending, 0, state.length))?;
+        print_digest(to, SPACE, journal)?;
+        print_digest(to, SPACE, answer)?;
     }
+    Ok(())
 }
 
 pub(crate) fn stage_name(stage: Stage) -> u8 {
@@ -199,37 +210,38 @@ pub(crate) struct Begun {
 
 // What the entry device sends first, or why it does not start; and what it does with each reply. Or,
 // at both, where it reports that the central's lines stand.
-pub(crate) fn print_play(call: &[u8], string: &mut [u8]) {
+pub(crate) fn print_play<W: Write>(to: &mut W, call: &[u8], string: &mut [u8]) -> io::Result<()> {
     let count = byte(call, COUNT);
-    let begun = begin(call, string);
+    let begun = begin(to, call, string)?;
     let mut state = begun.state;
     let mut index = begun.before;
     while index < count {
         index += 1;
-        state = take(call, word(call, index), state, string);
+        state = take(to, call, word(call, index), state, string)?;
     }
     if letter_of(call) == b'g' {
-        print_device(state);
-        print_digest(SPACE, string);
+        print_device(to, state)?;
+        print_digest(to, SPACE, string)?;
     }
+    Ok(())
 }
 
 // From the start, or from the state that the call gives.
-pub(crate) fn begin(call: &[u8], string: &mut [u8]) -> Begun {
+pub(crate) fn begin<W: Write>(to: &mut W, call: &[u8], string: &mut [u8]) -> io::Result<Begun> {
     let started = device::step::start(device_settings(call, 1), word(call, JOB), string);
     let outcome = started.outcome;
     let state = started.state;
     if letter_of(call) == b'x' {
         let remarks = started.remarks;
-        print_reported(NOTHING, remarks, outcome);
-        return saved_device(call);
+        print_reported(to, NOTHING, remarks, outcome)?;
+        return Ok(saved_device(call));
     }
-    print_outcome(call, outcome, string);
+    print_outcome(to, call, outcome, string)?;
     if letter_of(call) == b'g' {
-        return saved_device(call);
+        return Ok(saved_device(call));
     }
     let before = if code(outcome) == 0 { JOB } else { ALL };
-    Begun { state, before }
+    Ok(Begun { state, before })
 }
 
 // The state that the arguments behind the job are.
@@ -265,54 +277,60 @@ pub(crate) fn device_settings(call: &[u8], index: u8) -> device::Settings {
 }
 
 // The step of the entry device over a reply.
-fn take(call: &[u8], reply: &[u8], state: device::State, string: &mut [u8]) -> device::State {
+fn take<W: Write>(
+    to: &mut W,
+    call: &[u8],
+    reply: &[u8],
+    state: device::State,
+    string: &mut [u8],
+) -> io::Result<device::State> {
     let settings = device_settings(call, 1);
     let stepped = device::step::step(state, settings, word(call, JOB), reply, string);
     let outcome = stepped.outcome;
     if letter_of(call) == b'x' {
         let remarks = stepped.remarks;
-        print_reported(COMMA, remarks, outcome);
-        return stepped.state;
+        print_reported(to, COMMA, remarks, outcome)?;
+        return Ok(stepped.state);
     }
     let given = stepped.given;
     let report = stepped.report;
-    print_given(given, report);
-    print_outcome(call, outcome, string);
-    stepped.state
+    print_given(to, given, report)?;
+    print_outcome(to, call, outcome, string)?;
+    Ok(stepped.state)
 }
 
 // The verdict that a step gives, or the reply to the close that it reports, or `-`.
-fn print_given(given: Given, report: Report) {
+fn print_given<W: Write>(to: &mut W, given: Given, report: Report) -> io::Result<()> {
     match given {
         Given::Verdict(transaction, verdict) => {
-            print_number(COMMA, transaction);
-            print_number(names::EQUALS, verdict_number(verdict) as usize);
+            print_number(to, COMMA, transaction)?;
+            print_number(to, names::EQUALS, verdict_number(verdict) as usize)?;
         }
         Given::Nothing => match report {
             Report::Close(reply) => {
-                say(names::CLOSED);
-                say(reply_name(reply));
+                say(to, names::CLOSED)?;
+                say(to, reply_name(reply))?;
             }
-            Report::Nothing => say(names::UNREPORTED),
+            Report::Nothing => say(to, names::UNREPORTED)?,
         },
     }
-    say(SPACE);
+    say(to, SPACE)
 }
 
 // The step, with its transaction, block and attempts.
-fn print_device(state: device::State) {
+fn print_device<W: Write>(to: &mut W, state: device::State) -> io::Result<()> {
     let step = state.step;
     match step {
-        Step::Opening(place) => print_place(names::OPENING, place),
-        Step::Logon(place) => print_place(names::LOGON, place),
-        Step::Sending(place) => print_place(names::SENDING, place),
-        Step::Closing(place) => print_place(names::CLOSING, place),
-        Step::Stopped => say(names::STOPPED),
+        Step::Opening(place) => print_place(to, names::OPENING, place),
+        Step::Logon(place) => print_place(to, names::LOGON, place),
+        Step::Sending(place) => print_place(to, names::SENDING, place),
+        Step::Closing(place) => print_place(to, names::CLOSING, place),
+        Step::Stopped => say(to, names::STOPPED),
     }
 }
 
-fn print_place(name: u8, place: Place) {
-    print_number(name, place.transaction);
-    print_number(SPACE, place.block);
-    print_number(SPACE, place.attempts);
+fn print_place<W: Write>(to: &mut W, name: u8, place: Place) -> io::Result<()> {
+    print_number(to, name, place.transaction)?;
+    print_number(to, SPACE, place.block)?;
+    print_number(to, SPACE, place.attempts)
 }

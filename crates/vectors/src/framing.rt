@@ -6,23 +6,25 @@ use crate::calls::print_outcome;
 use crate::names::{COMMA, NOTHING, PART, SPACE, say};
 use framer::{Framed, Framer};
 use line::memory::copy;
+use std::io;
+use std::io::Write;
 use std::num::wrapping_add_usize;
 
 // Which argument the size of the output is: the last before the pieces.
 pub(crate) const ROOM: u8 = 3;
 
 // What comes of each piece, and then of a flush; and the output before and behind the flush.
-pub(crate) fn print_framing(call: &[u8], out: &mut [u8]) {
+pub(crate) fn print_framing<W: Write>(to: &mut W, call: &[u8], out: &mut [u8]) -> io::Result<()> {
     let count = byte(call, COUNT);
     let mut state = saved_framer(call);
     let mut index = ROOM;
     while index < count {
         index += 1;
-        state = feed_piece(word(call, index), state, out);
+        state = feed_piece(to, word(call, index), state, out)?;
     }
-    print_digest(NOTHING, out);
-    print_flush(call, state, out);
-    print_digest(SPACE, out);
+    print_digest(to, NOTHING, out)?;
+    print_flush(to, call, state, out)?;
+    print_digest(to, SPACE, out)
 }
 
 // The state that the first two arguments are.
@@ -36,19 +38,24 @@ fn saved_framer(call: &[u8]) -> Framer {
 }
 
 // Feeds a piece until all of it is used, or no string comes.
-fn feed_piece(piece: &[u8], saved: Framer, out: &mut [u8]) -> Framer {
+fn feed_piece<W: Write>(
+    to: &mut W,
+    piece: &[u8],
+    saved: Framer,
+    out: &mut [u8],
+) -> io::Result<Framer> {
     let mut state = saved;
     let mut from = 0;
     loop {
         let fed = framer::feed(state, part(piece, from, piece.len()), out);
         let outcome = fed.outcome;
         state = fed.state;
-        let next = wrapping_add_usize(from, print_fed(fed.used, outcome, out));
+        let next = wrapping_add_usize(from, print_fed(to, fed.used, outcome, out)?);
         if next <= from {
-            return state;
+            return Ok(state);
         }
         if piece.len() <= next {
-            return state;
+            return Ok(state);
         }
         from = next;
     }
@@ -56,37 +63,37 @@ fn feed_piece(piece: &[u8], saved: Framer, out: &mut [u8]) -> Framer {
 
 // The bytes used; the string, or that none is complete, or why none. How far on the next feed is: 0
 // where no string came.
-fn print_fed(used: usize, outcome: Framed, out: &[u8]) -> usize {
-    print_number(NOTHING, used);
+fn print_fed<W: Write>(to: &mut W, used: usize, outcome: Framed, out: &[u8]) -> io::Result<usize> {
+    print_number(to, NOTHING, used)?;
     let far = match outcome {
         Framed::Whole(n) => {
-            print_bytes(SPACE, part(out, 0, n));
+            print_bytes(to, SPACE, part(out, 0, n))?;
             used
         }
         Framed::Partial => {
-            say(PART);
+            say(to, PART)?;
             0
         }
         Framed::Refused(refusal) => {
-            say(SPACE);
-            print_refusal(refusal);
+            say(to, SPACE)?;
+            print_refusal(to, refusal)?;
             0
         }
     };
-    say(COMMA);
-    far
+    say(to, COMMA)?;
+    Ok(far)
 }
 
 // The bytes held, the string that a flush hands over, and how all of the state stands behind it.
-fn print_flush(call: &[u8], state: Framer, out: &mut [u8]) {
+fn print_flush<W: Write>(to: &mut W, call: &[u8], state: Framer, out: &mut [u8]) -> io::Result<()> {
     let held = state.held;
-    print_bytes(SPACE, part(&held, 0, state.length));
-    say(COMMA);
+    print_bytes(to, SPACE, part(&held, 0, state.length))?;
+    say(to, COMMA)?;
     let flushed = framer::flush(state, out);
     let outcome = flushed.outcome;
-    print_outcome(call, outcome, out);
+    print_outcome(to, call, outcome, out)?;
     let last = flushed.state;
     let rest = last.held;
-    print_number(COMMA, last.length);
-    print_digest(SPACE, &rest);
+    print_number(to, COMMA, last.length)?;
+    print_digest(to, SPACE, &rest)
 }

@@ -11,6 +11,8 @@ use line::memory::{copy, find, is_same};
 use snpp::answer::greeting;
 use snpp::step::{start, step};
 use snpp::{Settings, Stage, State, Stepped, write_out};
+use std::io;
+use std::io::Write;
 use std::num::wrapping_add_usize;
 
 // Which argument the size of the journal's buffer is.
@@ -23,24 +25,38 @@ pub(crate) const OUTPUT: u8 = 7;
 const STATE: u8 = 12;
 
 // What comes of the call that the first argument names.
-pub(crate) fn print_gateway(call: &[u8], pagers: &[u32], journal: &mut [u8], out: &mut [u8]) {
+pub(crate) fn print_gateway<W: Write>(
+    to: &mut W,
+    call: &[u8],
+    pagers: &[u32],
+    journal: &mut [u8],
+    out: &mut [u8],
+) -> io::Result<()> {
     match byte(word(call, 1), 0) {
-        b'd' => print_deletions(call, journal),
-        b'g' => print_put(greeting(out), out),
-        b'w' => print_put(write_out(text(call), out), out),
-        b'r' => print_round_trip(call, pagers, journal, out),
-        b's' => print_session(call, OUTPUT, begun(call, start()), pagers, journal, out),
-        _ => print_session(call, STATE, begun(call, saved(call)), pagers, journal, out),
+        b'd' => print_deletions(to, call, journal),
+        b'g' => print_put(to, greeting(out), out),
+        b'w' => print_put(to, write_out(text(call), out), out),
+        b'r' => print_round_trip(to, call, pagers, journal, out),
+        b's' => print_session(to, call, OUTPUT, begun(call, start()), pagers, journal, out),
+        _ => print_session(
+            to,
+            call,
+            STATE,
+            begun(call, saved(call)),
+            pagers,
+            journal,
+            out,
+        ),
     }
 }
 
 // The bytes that were put out, or why none; and all of the output. Both by their digests.
-fn print_put(outcome: Written, out: &[u8]) {
+fn print_put<W: Write>(to: &mut W, outcome: Written, out: &[u8]) -> io::Result<()> {
     match outcome {
-        Written::Count(n) => print_digest(NOTHING, part(out, 0, n)),
-        Written::Refused(refusal) => print_refusal(refusal),
+        Written::Count(n) => print_digest(to, NOTHING, part(out, 0, n))?,
+        Written::Refused(refusal) => print_refusal(to, refusal)?,
     }
-    print_digest(SPACE, out);
+    print_digest(to, SPACE, out)
 }
 
 // Before the first line: a state, and the journal's length.
@@ -76,14 +92,15 @@ fn stage_of(letter: u8) -> Stage {
 }
 
 // What the gateway answers to each line behind an argument, and how all stands behind the last.
-fn print_session(
+fn print_session<W: Write>(
+    to: &mut W,
     call: &[u8],
     before: u8,
     begun: Stepped,
     pagers: &[u32],
     journal: &mut [u8],
     out: &mut [u8],
-) {
+) -> io::Result<()> {
     let count = byte(call, COUNT);
     let mut stepped = begun;
     let mut index = before;
@@ -91,13 +108,13 @@ fn print_session(
         index += 1;
         stepped = hear(call, word(call, index), stepped, pagers, journal, out);
         let outcome = stepped.outcome;
-        print_outcome(call, outcome, out);
-        say(COMMA);
+        print_outcome(to, call, outcome, out)?;
+        say(to, COMMA)?;
     }
-    print_number(NOTHING, stepped.journal);
-    print_digest(SPACE, journal);
-    print_digest(SPACE, out);
-    print_state(stepped.state);
+    print_number(to, NOTHING, stepped.journal)?;
+    print_digest(to, SPACE, journal)?;
+    print_digest(to, SPACE, out)?;
+    print_state(to, stepped.state)
 }
 
 // The step of the gateway over a line.
@@ -124,15 +141,15 @@ fn hear(
 }
 
 // The stage, the digits and the message, with what stands behind them.
-fn print_state(state: State) {
+fn print_state<W: Write>(to: &mut W, state: State) -> io::Result<()> {
     let stage = state.stage;
     let pager = state.pager;
     let message = state.message;
-    print_number(SPACE, stage_number(stage));
-    print_number(SPACE, state.digits);
-    print_digest(SPACE, &pager);
-    print_number(SPACE, state.length);
-    print_digest(SPACE, &message);
+    print_number(to, SPACE, stage_number(stage))?;
+    print_number(to, SPACE, state.digits)?;
+    print_digest(to, SPACE, &pager)?;
+    print_number(to, SPACE, state.length)?;
+    print_digest(to, SPACE, &message)
 }
 
 fn stage_number(stage: Stage) -> usize {
@@ -144,18 +161,24 @@ fn stage_number(stage: Stage) -> usize {
 }
 
 // The last argument written out and taken in again: whether it is the same, and what the buffer holds.
-fn print_round_trip(call: &[u8], pagers: &[u32], journal: &mut [u8], out: &mut [u8]) {
+fn print_round_trip<W: Write>(
+    to: &mut W,
+    call: &[u8],
+    pagers: &[u32],
+    journal: &mut [u8],
+    out: &mut [u8],
+) -> io::Result<()> {
     let outcome = write_out(text(call), out);
-    print_put(outcome, out);
+    print_put(to, outcome, out)?;
     let n = take_in(
         call,
         part(out, 0, line::answer::count(outcome)),
         pagers,
         journal,
     );
-    print_number(SPACE, is_same(text(call), part(journal, 0, n)) as usize);
-    print_number(SPACE, n);
-    print_digest(SPACE, journal);
+    print_number(to, SPACE, is_same(text(call), part(journal, 0, n)) as usize)?;
+    print_number(to, SPACE, n)?;
+    print_digest(to, SPACE, journal)
 }
 
 // Takes lines in, from the start; the journal's length behind the last.

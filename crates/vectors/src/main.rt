@@ -15,41 +15,69 @@ mod names;
 mod remarks;
 mod runs;
 
-ghost use Rattle.std.specs.Prelude.{◌≡◌, length};
+ghost use Rattle.std.specs.Prelude.{◌≡◌, ◌≤◌, length, IfOk, vec_len};
 
 use line::character::LF;
 use line::memory::find;
+use std::alloc::{AllocError, Global};
+use std::io;
+use std::io::{BufWriter, Read, Write};
 
-fn main() {
-    let mut input = buffer();
-    let n = io::read_full(libc::STDIN_FILENO, &mut input);
-    run(&input[..n]);
+fn main(rt: HostRuntime) -> io::Result<()> {
+    let mut input = buffer(rt.alloc())?;
+    let n = read_full(&mut rt.reader(), &mut input)?;
+    let mut to = BufWriter::new(rt.alloc(), io::writer(&rt))?;
+    run(&mut to, &input[..n])?;
+    to.flush()
 }
 
-// Room for all of the input. The `ensures` gives only the length, which lending the array needs.
-fn buffer() -> [u8; 2097152]
-    ensures { 2097152 ≡ length result }
+// Room for all of the input, on the heap. The `ensures` gives only the length, which lending it needs.
+fn buffer(alloc: Global) -> Result<Vec<u8>, AllocError>
+    ensures { IfOk result (λ v. 2097152 ≡ vec_len v) }
 {
-    [0; 2097152]
+    vec![in alloc; 0; 2097152]
+}
+
+// Reads until the buffer is full or the input ends. How many bytes it put at the start of the buffer.
+fn read_full<R: Read>(from: &mut R, buf: &mut [u8]) -> io::Result<usize>
+    ensures { IfOk result (λ n. n ≤ length buf.new) }
+{
+    let mut done = 0;
+    while done < buf.len() {
+        let n = from.read(&mut buf[done..])?;
+        if n == 0 {
+            break;
+        }
+        done += n;
+    }
+    Ok(done)
 }
 
 // Every line of the input.
-fn run(input: &[u8]) {
+fn run<W: Write>(to: &mut W, input: &[u8]) -> io::Result<()> {
     let mut from = 0;
     while from < input.len() {
         let end = find(input, from, LF);
-        print_answer(&input[from..end]);
+        print_answer(to, &input[from..end])?;
         if input.len() <= end {
-            return;
+            return Ok(());
         }
         from = end + 1;
     }
+    Ok(())
 }
 
 // The answer to one call, on a line.
-fn print_answer(line: &[u8]) {
-    let mut call = io::large_buffer();
+fn print_answer<W: Write>(to: &mut W, line: &[u8]) -> io::Result<()> {
+    let mut call = large_buffer();
     argument::decode(line, &mut call);
-    calls::print_answer(&call);
-    names::say(names::LINE_END);
+    calls::print_answer(to, &call)?;
+    names::say(to, names::LINE_END)
+}
+
+// Room for a call. The `ensures` gives only the length, which lending the array needs.
+fn large_buffer() -> [u8; 65536]
+    ensures { 65536 ≡ length result }
+{
+    [0; 65536]
 }

@@ -1,7 +1,8 @@
 // The words of an answer, each by its place in a table.
 use crate::argument::part;
-use libc::STDOUT_FILENO;
 use line::memory::find;
+use std::io;
+use std::io::Write;
 
 pub(crate) const NOTHING: u8 = 0;
 
@@ -85,8 +86,8 @@ x |           b |           u |            part|        \
 d|            *|            ";
 
 // One of them.
-pub(crate) fn say(name: u8) {
+pub(crate) fn say<W: Write>(to: &mut W, name: u8) -> io::Result<()> {
     let names: &[u8] = &NAMES;
     let from = name as usize * WIDTH;
-    io::write_all(STDOUT_FILENO, part(names, from, find(names, from, b'|')));
+    to.write_all(part(names, from, find(names, from, b'|')))
 }

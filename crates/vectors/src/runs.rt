@@ -5,6 +5,8 @@ use crate::argument::{number, text, word};
 use crate::ends::{central_settings, device_settings};
 use crate::names::{NOTHING, SPACE};
 use call::Ran;
+use std::io;
+use std::io::Write;
 
 // Which argument the entry device's password is; its retry limit is the next.
 const PASSWORD: u8 = 6;
@@ -17,7 +19,13 @@ const FAULTS: u8 = 11;
 
 // What comes of a run; and what both buffers hold after it: the verdicts byte for byte, the
 // journal's by its digest.
-pub(crate) fn print_run(call: &[u8], pagers: &[u32], journal: &mut [u8], verdicts: &mut [u8]) {
+pub(crate) fn print_run<W: Write>(
+    to: &mut W,
+    call: &[u8],
+    pagers: &[u32],
+    journal: &mut [u8],
+    verdicts: &mut [u8],
+) -> io::Result<()> {
     let ran = call::run::run(
         text(call),
         device_settings(call, PASSWORD),
@@ -28,17 +36,17 @@ pub(crate) fn print_run(call: &[u8], pagers: &[u32], journal: &mut [u8], verdict
         word(call, FAULTS),
         verdicts,
     );
-    print_ran(ran);
-    print_bytes(SPACE, verdicts);
-    print_digest(SPACE, journal);
+    print_ran(to, ran)?;
+    print_bytes(to, SPACE, verdicts)?;
+    print_digest(to, SPACE, journal)
 }
 
-fn print_ran(ran: Ran) {
+fn print_ran<W: Write>(to: &mut W, ran: Ran) -> io::Result<()> {
     match ran {
         Ran::Done(totals) => {
-            print_number(NOTHING, totals.transmissions);
-            print_number(SPACE, totals.journal);
+            print_number(to, NOTHING, totals.transmissions)?;
+            print_number(to, SPACE, totals.journal)
         }
-        Ran::Refused(refusal) => print_refusal(refusal),
+        Ran::Refused(refusal) => print_refusal(to, refusal),
     }
 }
