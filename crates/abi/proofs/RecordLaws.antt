@@ -15,7 +15,6 @@ use Rattle.device.specs.Settling.{settled_numbers}
 use Rattle.device.specs.declared.settling.Standing.{Standing}
 use Rattle.device.specs.declared.settling.Standing.TheVariants.{Open, Confirmed, InDoubt}
 use Rattle.device.specs.declared.state.Step.{Step}
-use Rattle.device.specs.declared.state.Step.TheVariants as Step
 use Rattle.abi.specs.Centrals as Centrals
 use Rattle.abi.specs.Devices as Devices
 use Rattle.abi.specs.Settling.{settled_as, standing_number}
