@@ -1,4 +1,4 @@
-// Tyntolai: a TAP pager link. The functions of the static library libabi.a (rt staticlib abi).
+// Tyntolai: a TAP pager link. The functions of the static library libabi.a (rt lib, in crates/abi).
 //
 // Every call is settled for every input. `code` is 0 where it is done, or the number of the refusal;
 // a refusal has count 0 and leaves all memory and every state as it was:
