@@ -59,6 +59,7 @@ fn print<W: Write>(to: &mut W, line: &[u8], out: &mut [u8], waiting: usize) -> i
 }
 
 // One piece of the input: each line that ends in it is printed, and the start of the next is kept.
+// Of a write that fails nothing is known but that the memory keeps its size.
 fn take<W: Write>(
     to: &mut W,
     piece: &[u8],
@@ -67,9 +68,10 @@ fn take<W: Write>(
     filled: Filled,
 ) -> io::Result<Filled>
     requires { Within filled line.old out.old }
-    ensures { IfOk result (λ now. Took
+    ensures ok { IfOk result (λ now. Took
         piece.now
         line.old out.old line.new out.new filled now) }
+    ensures err { OnErr result ((length line.new ≡ length line.old) × (length out.new ≡ length out.old)) }
 {
     let mut kept = filled.kept;
     let mut waiting = filled.waiting;
@@ -98,9 +100,10 @@ fn take_all<R: Read, W: Write>(
     out: &mut [u8],
 ) -> io::Result<Filled>
     requires { (length line.old ≡ 2000) × (10248 ≤ length out.old) }
-    ensures { IfOk result (λ now. (text : List ℕ) × Took
+    ensures ok { IfOk result (λ now. (text : List ℕ) × Took
         text
         line.old out.old line.new out.new nothing now) }
+    ensures err { OnErr result ((length line.new ≡ length line.old) × (length out.new ≡ length out.old)) }
 {
     let mut filled = Filled {
         kept: 0,
@@ -137,7 +140,8 @@ fn finish<W: Write>(to: &mut W, line: &[u8], out: &mut [u8], filled: Filled) -> 
 // Prints all lines of the input. How many bytes wait at the end, behind what was written out.
 fn print_all<R: Read, W: Write>(from: &mut R, to: &mut W, out: &mut [u8]) -> io::Result<usize>
     requires { 10248 ≤ length out.old }
-    ensures { IfOk result (λ waiting. Listed out.old out.new waiting) }
+    ensures ok { IfOk result (λ waiting. Listed out.old out.new waiting) }
+    ensures err { OnErr result (length out.new ≡ length out.old) }
 {
     let mut piece = large_buffer();
     let mut line = [0u8; KEPT];

@@ -3,5 +3,5 @@ use Rattle.std.proofs.lemmas.Result.{IfOk-weaker}
 use Rattle.blocks.proofs.LineLaws.{took_whole}
 use Rattle.blocks.proofs.print_all.Goals as goal
 
-pub returns : goal.returns
-returns g c = IfOk-weaker c.finish.result _ _ (λ n laid. took_whole c.take_all.auto.out c.in_ok-filled.ensures.1 laid) c.finish.ensures.ok
+pub returns-clause-ok : goal.returns-clause-ok
+returns-clause-ok g c = IfOk-weaker c.finish.result _ _ (λ n laid. took_whole c.take_all.auto.out c.in_ok-filled.ensures.ok.1 laid) c.finish.ensures.ok

@@ -54,9 +54,9 @@ loop-at-preserved g c =
     let line : length c.loop-at.line ≡ 2000 = omega (arith, c.loop-at.auto.line, c.requires.lines) in
     (laid-within c.keep-kept.ensures, waits, written, right ∙ kept_right piece c.loop-at.at c.find-end.result c.find-end.ensures (length c.args.out.now) written _ line keeps c.keep-kept.ensures)
 
-pub returns : goal.returns
+pub returns-clause-ok : goal.returns-clause-ok
 unfolding taken
-returns g c =
+returns-clause-ok g c =
     let (keeps, waits, written, right) = c.loop-at.invariant in
     let none = drop_of_length-le c.args.piece.now c.loop-at-test.false in
     record {

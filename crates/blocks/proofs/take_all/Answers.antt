@@ -10,4 +10,4 @@ loop-turns-init g c =
     ([], record { within = record { keeps = search rules; lines = c.requires.0; waits = search rules; prints = c.requires.1 }; written = []; right = refl })
 
 pub loop-turns-preserved : goal.loop-turns-preserved
-loop-turns-preserved g c = (_, took_append c.loop-turns.auto.out c.loop-turns.invariant.1 c.in_ok-filled.ensures)
+loop-turns-preserved g c = (_, took_append c.loop-turns.auto.out c.loop-turns.invariant.1 c.in_ok-filled.ensures.ok)
