@@ -89,8 +89,8 @@ fn take<W: Write>(
     Ok(Filled { kept, waiting })
 }
 
-// Takes the input piece by piece, to its end. What is left is as if it were one text, which no
-// contract can name. A proved loop has to end, and nothing says that the input does, so the loop
+// Takes the input piece by piece, to its end. What is left is as if it were one text, which this
+// contract does not name. A proved loop has to end, and nothing says that the input does, so the loop
 // counts its turns down from a number that no run uses up.
 fn take_all<R: Read, W: Write>(
     from: &mut R,

@@ -156,7 +156,7 @@ module _ (R : Parameters) where
     sent_dead m d j none = (severed, refl)
     sent_dead (effects h k) d j (some c) = rw (closed-hears j (arrives h c)) (severed, nothing_still k d)
 
-    -- a dead modelEnds stays dead, and decides nothing
+    -- a dead model_ends stays dead, and decides nothing
     exchange_dead : (m : Effects) {w : ModelEnds R.J} → Dead w → Dead (exchange R L m w) × Still (device_of w) (device_of (exchange R L m w))
     unfolding exchange sent
     exchange_dead m (severed {d = device p left told} {j = j}) = sent_dead m (device p left told) j (transmits p)

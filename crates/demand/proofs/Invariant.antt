@@ -162,13 +162,13 @@ module _ (R : Parameters) where
         is_closing : {a : ℕ} {told : List Verdict} {s : CentralPhase} {j : J} → Leaving s → Reached [] told j → Good (model_ends (device (closing a) [] told) s j)
         is-stopped : {left : List (List ℕ)} {told : List Verdict} {s : CentralPhase} {j : J} → Ended left told j → Good (model_ends (device stopped left told) s j)
 
-      -- faultEffect is allowed only where nothing calls for calm
+      -- fault_effect is allowed only where nothing calls for calm
       abbrev Allowed : Effect → Type 0
       Allowed whole = Unit {0}
       Allowed lost = ¬ Calm
       Allowed garbled = ¬ Calm
 
-      -- without calm every faultEffect is allowed
+      -- without calm every fault_effect is allowed
       allowed : (h : Effect) → ¬ Calm → Allowed h
       allowed whole n = tt
       allowed lost n = n
@@ -192,7 +192,7 @@ module _ (R : Parameters) where
       good-begin {left = t ∷ ts} m r = is-sending m r (well_cut_head r.well_cut) refl
 
       module _ (laws : Laws R) (L : Limits) (start : Reached job [] j₀) where
-        -- the modelEnds after the device d got the reply r
+        -- the model_ends after the device d got the reply r
         abbrev Then : Effect → Device → Response J → Type 0
         Then k d r = Good (answered R L k d r)
 
@@ -407,7 +407,7 @@ module _ (R : Parameters) where
         good-run (suc n) [] q g = good-run n [] q (good-exchange whole whole tt tt g)
         good-run (suc n) (effects h k ∷ ms) q g = good-run n ms (undamaged ms q) (good-exchange h k (allowed h q) (allowed k q) g)
 
-      -- a modelEnds in which a run has ended so
+      -- a model_ends in which a run has ended so
       abbrev pub EndOf : ModelEnds J → Type 0
       EndOf (model_ends (device p left told) s j) = Ended left told j
 

@@ -57,7 +57,7 @@ module _ {J : Type 0} (i : Inputs J) where
   same-journal (both-blocks h) = refl
   same-journal both-closed = refl
 
-  -- what both ends hold is what the model's modelEnds holds
+  -- what both ends hold is what the model's model_ends holds
   pub record Comes (e : Ends J) (w : ModelEnds J) : Type 0 where
     pub stops : e.step ≡ Stopped → halts_at (device_of w) ≡ true
     pub verdicts : e.verdicts ≡ (outcome w).verdicts

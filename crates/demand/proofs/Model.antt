@@ -174,6 +174,6 @@ halts_at (device stopped left told) = true
 abbrev pub told_by : Device → List Verdict
 told_by (device p left told) = told ++ replicate (length left) Unsent
 
--- what a modelEnds holds
+-- what a model_ends holds
 abbrev pub outcome : {J : Type 0} → ModelEnds J → Result J
 outcome (model_ends d s j) = record { verdicts = told_by d; journal = j }

@@ -21,7 +21,7 @@ use Rattle.demand.proofs.HigherLimits.{count, decides-more}
 use Rattle.demand.proofs.Invariant.{Ended, quit, broke, undamaged, EndOf, played-end}
 use Rattle.demand.proofs.Summary.{summary, clean-verdicts_are, clean-journal-is, unmatched-verdicts, unmatched-journal, safe}
 
--- the decisions of a modelEnds are those of its device
+-- the decisions of a model_ends are those of its device
 count-is : {J : Type 0} (w : ModelEnds J) → decided (outcome w).verdicts ≡ count (device_of w)
 unfolding count
 count-is (model_ends (device p left told) s j) = rw decided-append (omega (arith, decided_unsent (length left)))

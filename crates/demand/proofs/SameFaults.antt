@@ -36,15 +36,15 @@ use Rattle.demand.proofs.Tests.{device_of}
 
 -- ── What a fault is to the model ──
 
--- the faultEffect of a fault to a string: 0 whole, 1 garbled, 2 lost
+-- the fault_effect of a fault to a string: 0 whole, 1 garbled, 2 lost
 abbrev fault_effect : ℕ → Effect
 fault_effect fault = if eqb fault 0 then whole else if eqb fault 1 then garbled else lost
 
--- the faultEffect to one transmission
+-- the fault_effect to one transmission
 abbrev pub fault_effects : ℕ → Effects
 fault_effects fault = effects (fault_effect (fault / 3)) (fault_effect (fault % 3))
 
--- the damage of a fault to a string that is not empty is that faultEffect
+-- the damage of a fault to a string that is not empty is that fault_effect
 effect_is : (fault : ℕ) (bytes : List ℕ) → 1 ≤ length bytes → effect_of (damage fault bytes) ≡ fault_effect fault
 effect_is fault [] h = absurd (omega arith)
 effect_is fault (b ∷ bs) h = go (eqb fault 0) (eqb fault 1)

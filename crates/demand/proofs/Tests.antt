@@ -12,7 +12,7 @@ use Rattle.device.specs.declared.state.Verdict.TheVariants.{Unsent}
 use Rattle.demand.proofs.Model.{Device, ModelEnds, model_ends}
 use Rattle.demand.specs.Demand.{decides, decided, Undecided}
 
--- the device of a modelEnds
+-- the device of a model_ends
 abbrev pub device_of : {J : Type 0} → ModelEnds J → Device
 device_of (model_ends d s j) = d
 
