@@ -87,7 +87,7 @@ module _ (n : ℕ) (ms : List ℕ) (i : ℕ) (rest : listed n ms ≡ listed n (d
   listed-ended h = sym (rest ∙ rw (drop_of_length-le ms h))
 
 -- the first field is what stands before the first CR
-first-before : (t : List ℕ) → first_field t ≡ take (before CR t) t
+pub first-before : (t : List ℕ) → first_field t ≡ take (before CR t) t
 unfolding first_field before
 first-before [] = refl
 first-before (c ∷ t) = go (eqb c CR) (first-before t)
