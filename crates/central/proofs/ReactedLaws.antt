@@ -1,12 +1,14 @@
 -- What the central does, by the functions inside a step: where nothing is stored, where the transaction goes on, and where it is whole.
 use Rattle.std.specs.Prelude.{if◌then◌else◌}
 use mathlib.Core.Bool.{Bool, true, false}
-use mathlib.Core.List.{List, [], ◌++◌}
+use mathlib.Core.List.{List, [], ◌∷◌, ◌++◌}
+use mathlib.Core.Logic.{inl, inr}
 use mathlib.Core.Option.{Option, some, none}
 use mathlib.Core.Path.{◌≡◌, refl, sym, ◌∙◌}
 use Prim.Native.Nat.{ℕ, ◌+◌, ◌<◌, ◌≤◌}
 use native.Mathlib.Omega.{arith}
 use borrow.Author.Tests.{le-ltb, lt-ltb}
+use denote.Enum.Declared.{tag_of}
 use lib.ListN.{length, length-append}
 use lib.Seq.{length-take-le}
 use Rattle.line.proofs.OverlayLaws.{overlay-none, overlay-own}
@@ -16,7 +18,9 @@ use Rattle.line.specs.Test.{all}
 use Rattle.line.specs.Transaction.{legal}
 use Rattle.journal.proofs.StorageLaws.{read-size, stored-own}
 use Rattle.journal.specs.Storage.{transactions, size_of, stored_in}
+use types.Run.{OneOf}
 use Rattle.admission.proofs.AdmissionLaws.{admit_stores}
+use Rattle.admission.specs.contracts.Admitted.{the_type}
 use Rattle.admission.specs.Admission.{Admits, admit_to, admitted_as}
 use Rattle.admission.specs.Content.{admits}
 use Rattle.admission.specs.declared.Admitted.{Admitted}
@@ -30,9 +34,16 @@ use Rattle.central.specs.declared.state.Settings.{Settings}
 use Rattle.central.specs.declared.state.Stage.{Stage}
 use Rattle.central.specs.declared.state.Stage.TheVariants.{Block}
 
+-- what is not stored has one of the other tags
+pub other-tag : (a : Admitted) → ((n : ℕ) → a ≡ Stored n → ⊥) → OneOf (1 ∷ 2 ∷ []) (tag_of the_type a)
+other-tag (Stored n) h = absurd (h n refl)
+other-tag Rejected h = inl refl
+other-tag (Refused r) h = inr refl
+
 -- an answer of admission that is done and not `Stored` is `Rejected`
-pub not-stored : (a : Admitted) (o : Option ℕ) → ((n : ℕ) → a ≡ Stored n → ⊥) → admitted_as a ≡ done o → admitted_as a ≡ done none
-not-stored (Stored n) o h e = absurd (h n refl)
+pub not-stored : (a : Admitted) (o : Option ℕ) → OneOf (1 ∷ 2 ∷ []) (tag_of the_type a) → admitted_as a ≡ done o → admitted_as a ≡ done none
+not-stored (Stored n) o (inl h) e = absurd (omega arith)
+not-stored (Stored n) o (inr h) e = absurd (omega arith)
 not-stored Rejected o h e = refl
 not-stored (Refused r) o h e = cc
 
@@ -131,7 +142,7 @@ module _ (k : Control) (buffer : List ℕ) (bytes : all byte buffer ≡ true) (r
         go false f = let z : ◌≡◌ {A = ℕ} 0 1 = cc (e, rw f at admitted.0) in absurd (omega arith)
 
     -- it is not
-    pub concludes-dropped : (array : List ℕ) {r : Reacted} → ((n : ℕ) → a ≡ Stored n → ⊥) → k.length ≤ length array →
+    pub concludes-dropped : (array : List ℕ) {r : Reacted} → OneOf (1 ∷ 2 ∷ []) (tag_of the_type a) → k.length ≤ length array →
         Does (λ c. record { next = at Block [] c.journal; answer = rs }) k r → Stores (concludes_in settings pagers k array buffer t) r array array buffer buffer'
     concludes-dropped array {r} e h does = go fits refl
       where

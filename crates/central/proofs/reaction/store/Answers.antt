@@ -5,7 +5,7 @@ use Rattle.line.proofs.AllLaws.{all-bytes}
 use Rattle.line.specs.Character.{byte}
 use Rattle.line.specs.Test.{all}
 use Rattle.admission.specs.Admission.{admitted_as}
-use Rattle.central.proofs.ReactedLaws.{concludes-stored, concludes-dropped}
+use Rattle.central.proofs.ReactedLaws.{concludes-stored, concludes-dropped, other-tag}
 use Rattle.central.proofs.reaction.store.Goals as goal
 
 pub returns-in_default : goal.returns-in_default
@@ -14,7 +14,7 @@ returns-in_default c =
     let a = c.args in
     let p = c.requires in
     λ array fits.
-    concludes-dropped a.control a.journal.now bytes p.0 a.settings a.pagers.now a.info.now p.1 c.admit-admitted.ensures array c.in_default.not-Stored fits c.enter.ensures
+    concludes-dropped a.control a.journal.now bytes p.0 a.settings a.pagers.now a.info.now p.1 c.admit-admitted.ensures array (other-tag _ c.in_default.not-Stored) fits c.enter.ensures
 
 pub returns : goal.returns
 returns c =

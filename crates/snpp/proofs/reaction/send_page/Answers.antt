@@ -6,7 +6,7 @@ use lib.Dec.{eqb}
 use lib.Seq.{length-take-le}
 use Rattle.line.proofs.AllLaws.{all-bytes}
 use Rattle.admission.specs.Admission.{admitted_as}
-use Rattle.central.proofs.ReactedLaws.{not-stored}
+use Rattle.central.proofs.ReactedLaws.{not-stored, other-tag}
 use Rattle.snpp.proofs.OfferLaws.{held-pager}
 use Rattle.snpp.proofs.ReactionLaws.{does_order, does_stored, does_failed}
 use Rattle.snpp.proofs.StateLaws.{ranged}
@@ -64,7 +64,7 @@ returns-in_default c =
     let (forgot, cleared) = c.forget.ensures in
     rw (forgot, cleared)
     (does_failed a.settings a.pagers.now a.control a.message.now a.journal.now a.length (all-bytes a.journal.now (search rules)) c.requires.0 c.requires.1 entered digits c.offer-admitted.ensures
-    (not-stored c.offer-admitted.result _ c.in_default.not-Stored c.offer-admitted.ensures.answers))
+    (not-stored c.offer-admitted.result _ (other-tag _ c.in_default.not-Stored) c.offer-admitted.ensures.answers))
 
 pub returns : goal.returns
 returns c =
