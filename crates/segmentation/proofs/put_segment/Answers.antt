@@ -8,20 +8,21 @@ use Rattle.block.proofs.SegmentsLaws.{joins_at}
 use Rattle.segmentation.specs.Segmentation.{segment_at_by}
 use Rattle.segmentation.proofs.SegmentationByLaws.{piece_from, by_joins, turn_at}
 use Rattle.segmentation.proofs.put_segment.Goals as goal
+use Rattle.segmentation.proofs.put_segment.Goals.{After-next_length}
+
+-- the piece is the segment
+cut : (c : After-next_length) →
+    let a = c.args in
+    segment_at_by a.way a.info.now a.index ≡ piece_from a.info.now c.segment_start-from.result c.next_length.result
+cut c =
+    let (within, here) = c.segment_start-from.ensures in
+    turn_at c.args.way c.args.info.now _ _ within c.next_length.ensures c.args.index here c.requires.1
 
 pub put_piece-requires : goal.put_piece-requires
 put_piece-requires c =
-    let cut : (let a = c.args in
-    segment_at_by a.way a.info.now a.index ≡ piece_from a.info.now c.segment_start-from.result c.next_length.result) = (let (within, here) = c.segment_start-from.ensures in
-    turn_at c.args.way c.args.info.now _ _ within c.next_length.ensures c.args.index here c.requires.1) in
-    let fits : (let g = piece_from c.args.info.now c.segment_start-from.result c.next_length.result in
-    (length g.info ≤ 250) × (right g.info g.ending ≡ true) × (length g.info + 6 ≤ length c.args.out.now)) = (let (short, good) = rw cut at (joins_at (by_joins c.args.way c.args.info.now c.requires.0) c.args.index c.requires.1) in
-    (short, good, rw cut at c.requires.2)) in
-    fits
+    let is = cut (goal.at.put_piece-requires c).After-next_length in
+    let (short, good) = rw is at (joins_at (by_joins c.args.way c.args.info.now c.requires.0) c.args.index c.requires.1) in
+    (short, good, rw is at c.requires.2)
 
 pub returns : goal.returns
-returns c =
-    let cut : (let a = c.args in
-    segment_at_by a.way a.info.now a.index ≡ piece_from a.info.now c.segment_start-from.result c.next_length.result) = (let (within, here) = c.segment_start-from.ensures in
-    turn_at c.args.way c.args.info.now _ _ within c.next_length.ensures c.args.index here c.requires.1) in
-    rw cut c.put_piece.ensures
+returns c = rw (cut (goal.at.returns c).After-next_length) c.put_piece.ensures
