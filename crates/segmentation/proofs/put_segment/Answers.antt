@@ -1,9 +1,5 @@
 -- `put_segment` meets its contract: the piece that it cuts is the segment's, and so is the ending; of a legal transaction it is right.
-use mathlib.Core.Bool.{true}
 use mathlib.Core.Path.{◌≡◌}
-use Prim.Native.Nat.{◌+◌, ◌≤◌}
-use lib.ListN.{length}
-use Rattle.block.specs.Block.{right}
 use Rattle.block.proofs.SegmentsLaws.{joins_at}
 use Rattle.segmentation.specs.Segmentation.{segment_at_by}
 use Rattle.segmentation.proofs.SegmentationByLaws.{piece_from, by_joins, turn_at}

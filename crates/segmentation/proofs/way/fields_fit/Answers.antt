@@ -7,31 +7,27 @@ use Rattle.line.proofs.ListLaws.{rest_all}
 use Rattle.segmentation.specs.Segmentation.{complete, fields_within}
 use Rattle.segmentation.proofs.WholeFieldsLaws.{within-short, within_turn}
 use Rattle.segmentation.proofs.way.fields_fit.Goals as goal
+use Rattle.segmentation.proofs.way.fields_fit.Goals.{After-complete_fields-n}
+
+-- more than 250 characters are left, and what is counted of them is complete
+turn : (c : After-complete_fields-n) →
+    let left = drop c.loop-from.from c.args.info.now in
+    (250 < length left) × (c.complete_fields-n.result ≡ min (length left) (complete 250 left))
+turn c =
+    let l = c.loop-from in
+    let t = c.args.info.now in
+    (omega (arith, length-drop l.from t), rw (rest_all l.from t) at c.complete_fields-n.ensures)
 
 pub returns-then-n-eq0 : goal.returns-then-n-eq0
 returns-then-n-eq0 c =
-    let counts : (let l = c.loop-from in
-    let left = drop l.from c.args.info.now in
-    c.complete_fields-n.result ≡ min (length left) (complete 250 left)) = (let l = c.loop-from in
-    rw (rest_all l.from c.args.info.now) at c.complete_fields-n.ensures) in
-    let far : (let l = c.loop-from in
-    250 < length (drop l.from c.args.info.now)) = (let l = c.loop-from in
-    let t = c.args.info.now in
-    omega (arith, length-drop l.from t)) in
+    let (far, counts) = turn (goal.at.returns-then-n-eq0 c).After-complete_fields-n in
     sym (c.loop-from.invariant.1 ∙ (within_turn _ _ far counts).0 c.if-n-eq0.true)
 
 pub loop-from-preserved : goal.loop-from-preserved
 loop-from-preserved c =
-    let counts : (let l = c.loop-from in
-    let left = drop l.from c.args.info.now in
-    c.complete_fields-n.result ≡ min (length left) (complete 250 left)) = (let l = c.loop-from in
-    rw (rest_all l.from c.args.info.now) at c.complete_fields-n.ensures) in
-    let far : (let l = c.loop-from in
-    250 < length (drop l.from c.args.info.now)) = (let l = c.loop-from in
-    let t = c.args.info.now in
-    omega (arith, length-drop l.from t)) in
     let l = c.loop-from in
     let t = c.args.info.now in
+    let (far, counts) = turn (goal.at.loop-from-preserved c).After-complete_fields-n in
     let rest = length-drop l.from t in
     (omega (arith, counts), l.invariant.1 ∙ (within_turn _ _ far counts).1 c.if-n-eq0.false ∙ ap (fields_within 250) (drop-drop _ l.from t))
 
