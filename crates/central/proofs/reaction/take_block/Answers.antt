@@ -12,43 +12,56 @@ use Rattle.block.specs.Block.{right}
 use Rattle.block.specs.Segments.{continues}
 use Rattle.block.specs.declared.frame.Ending.TheVariants.{Etx}
 use Rattle.central.proofs.ReactedLaws.{takes-over, takes-on}
-use Rattle.central.specs.Inner.{pending_in}
-use Rattle.central.specs.declared.state.Control.{Control}
+use Rattle.central.specs.Inner.{Continues, Stores, pending_in, takes_in}
+use Rattle.central.specs.declared.reaction.Reacted.{Reacted}
+use borrow.Author.Rules.{rules}
 use Rattle.central.proofs.reaction.take_block.Goals as goal
+use Rattle.central.proofs.reaction.take_block.Goals.{Start, Else-settings-n}
+
+-- the pending information lies in its array
+inside : (c : Start) → c.args.control.length ≤ length c.args.pending.now
+inside c = let p = c.requires.0 in omega (arith, p)
 
 -- the length of the transaction so far
-long : (k : Control) (pending info : List ℕ) → k.length ≤ length pending → length (pending_in k pending ++ info) ≡ k.length + length info
-long k pending info inside = length-append (pending_in k pending) info ∙ rw (length-take-le k.length pending inside)
+long : (c : Start) →
+    let a = c.args in
+    length (pending_in a.control a.pending.now ++ a.info.now) ≡ a.control.length + length a.info.now
+long c =
+    let a = c.args in
+    length-append (pending_in a.control a.pending.now) a.info.now ∙ rw (length-take-le a.control.length a.pending.now (inside c))
+
+-- it is at most L
+short : (c : Else-settings-n) →
+    let a = c.args in
+    length (pending_in a.control a.pending.now ++ a.info.now) ≤ a.settings.longest
+short c = rw (long (goal.at.Else-settings-n c).Start) c.if-settings-n.false
+
+-- the transaction goes on
+goes_on : (c : Else-settings-n) {r : Reacted} {array : List ℕ} →
+    let a = c.args in
+    Continues a.control a.info.now r a.pending.now array →
+    Stores (takes_in a.settings a.pagers.now a.control a.pending.now a.journal.now (pending_in a.control a.pending.now ++ a.info.now) true) r a.pending.now array a.journal.now a.journal.now
+goes_on c =
+    let a = c.args in
+    takes-on a.control a.journal.now (all-bytes a.journal.now (search rules)) c.requires.0.journal a.settings a.pagers.now a.pending.now _ a.info.now (inside (goal.at.Else-settings-n c).Start) (short c)
 
 pub returns-then-settings-n : goal.returns-then-settings-n
 returns-then-settings-n c =
     let a = c.args in
-    let p = c.requires.0 in
-    let inside : a.control.length ≤ length a.pending.now = omega (arith, p) in
-    takes-over a.control a.journal.now (all-bytes _ c.slice_known-1.given) p.journal a.settings a.pagers.now a.pending.now (pending_in a.control a.pending.now ++ a.info.now) (continues a.ending) inside
-    (rw (long a.control a.pending.now a.info.now inside) c.if-settings-n.true) c.enter.ensures
+    let start = (goal.at.returns-then-settings-n c).Start in
+    takes-over a.control a.journal.now (all-bytes a.journal.now (search rules)) c.requires.0.journal a.settings a.pagers.now a.pending.now (pending_in a.control a.pending.now ++ a.info.now) (continues a.ending) (inside start)
+    (rw (long start) c.if-settings-n.true) c.enter.ensures
 
 pub conclude-requires : goal.conclude-requires
 conclude-requires c =
     let a = c.args in
     let p = c.requires.0 in
-    let inside : a.control.length ≤ length a.pending.now = omega (arith, p) in
-    let fits : length (pending_in a.control a.pending.now ++ a.info.now) ≤ a.settings.longest = rw (long a.control a.pending.now a.info.now inside) c.if-settings-n.false in
     let good = subst (λ e. right a.info.now e ≡ true) c.in-Etx.is c.requires.1 in
+    let fits = short (goal.at.conclude-requires c).Else-settings-n in
     (p, joined-legal (pending_in a.control a.pending.now) a.info.now Etx p.characters good refl (omega (arith, p)), fits)
 
 pub returns-in-Etb : goal.returns-in-Etb
-returns-in-Etb c =
-    let a = c.args in
-    let p = c.requires.0 in
-    let inside : a.control.length ≤ length a.pending.now = omega (arith, p) in
-    let fits : length (pending_in a.control a.pending.now ++ a.info.now) ≤ a.settings.longest = rw (long a.control a.pending.now a.info.now inside) c.if-settings-n.false in
-    rw c.in-Etb.is (takes-on a.control a.journal.now (all-bytes _ c.slice_known-1.given) p.journal a.settings a.pagers.now a.pending.now _ a.info.now inside fits c.go_on.ensures)
+returns-in-Etb c = rw c.in-Etb.is (goes_on (goal.at.returns-in-Etb c).Else-settings-n c.go_on.ensures)
 
 pub returns-in-Us : goal.returns-in-Us
-returns-in-Us c =
-    let a = c.args in
-    let p = c.requires.0 in
-    let inside : a.control.length ≤ length a.pending.now = omega (arith, p) in
-    let fits : length (pending_in a.control a.pending.now ++ a.info.now) ≤ a.settings.longest = rw (long a.control a.pending.now a.info.now inside) c.if-settings-n.false in
-    rw c.in-Us.is (takes-on a.control a.journal.now (all-bytes _ c.slice_known-1.given) p.journal a.settings a.pagers.now a.pending.now _ a.info.now inside fits c.go_on-in-Us.ensures)
+returns-in-Us c = rw c.in-Us.is (goes_on (goal.at.returns-in-Us c).Else-settings-n c.go_on-in-Us.ensures)
