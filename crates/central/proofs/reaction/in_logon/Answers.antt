@@ -12,6 +12,24 @@ use Rattle.central.specs.Hearing.{middle, logs_on, recognized}
 use Rattle.central.specs.Reaction.{reacts}
 use native.Mathlib.Omega.{arith}
 use Rattle.central.proofs.reaction.in_logon.Goals as goal
+use Rattle.central.proofs.reaction.in_logon.Goals.{Else-is_same, Else-not-logs_on, After-has_password}
+
+-- the text is not CR alone
+other : (c : Else-is_same) → same c.args.text.now (CR ∷ []) ≡ false
+other c = sym c.is_same.ensures ∙ c.if-is_same.false
+
+-- it is a logon
+logon : (c : Else-not-logs_on) → logs_on c.args.text.now ≡ true
+logon c = sym c.logs_on.ensures ∙ c.if-not-logs_on.false
+
+-- its letters and digits were compared
+compared : (c : After-has_password) →
+    let a = c.args in
+    c.has_password.result ≡ same (middle a.text.now) (bytes_of "PG1" ++ password_text a.settings.password)
+compared c =
+    let t = c.args.text.now in
+    let n : length t - 1 - 1 ≡ length t - 2 = omega arith in
+    rw n at c.has_password.ensures
 
 pub returns-then-is_same : goal.returns-then-is_same
 unfolding reacts recognized
@@ -19,31 +37,19 @@ returns-then-is_same c = λ pagers array ts h. rw (sym c.is_same.ensures ∙ c.i
 
 pub returns-then-not-logs_on : goal.returns-then-not-logs_on
 unfolding reacts recognized
-returns-then-not-logs_on c =
-    let other : same c.args.text.now (CR ∷ []) ≡ false = sym c.is_same.ensures ∙ c.if-is_same.false in
-    λ pagers array ts h.
-    rw (other, sym c.logs_on.ensures ∙ c.if-not-logs_on.true) (c.fail.ensures pagers array ts h)
+returns-then-not-logs_on c = λ pagers array ts h.
+    rw (other (goal.at.returns-then-not-logs_on c).Else-is_same, sym c.logs_on.ensures ∙ c.if-not-logs_on.true) (c.fail.ensures pagers array ts h)
 
 pub returns-then-not-has_password : goal.returns-then-not-has_password
 unfolding reacts recognized
 returns-then-not-has_password c =
-    let other : same c.args.text.now (CR ∷ []) ≡ false = sym c.is_same.ensures ∙ c.if-is_same.false in
-    let logon : logs_on c.args.text.now ≡ true = sym c.logs_on.ensures ∙ c.if-not-logs_on.false in
-    let compared : (let a = c.args in
-    c.has_password.result ≡ same (middle a.text.now) (bytes_of "PG1" ++ password_text a.settings.password)) = (let t = c.args.text.now in
-    let n : length t - 1 - 1 ≡ length t - 2 = omega arith in
-    rw n at c.has_password.ensures) in
+    let here = goal.at.returns-then-not-has_password c in
     λ pagers array ts h.
-    rw (other, logon, sym compared ∙ c.if-not-has_password.true) (c.fail-then-not-has_password.ensures pagers array ts h)
+    rw (other here.Else-is_same, logon here.Else-not-logs_on, sym (compared here.After-has_password) ∙ c.if-not-has_password.true) (c.fail-then-not-has_password.ensures pagers array ts h)
 
 pub returns : goal.returns
 unfolding reacts recognized
 returns c =
-    let other : same c.args.text.now (CR ∷ []) ≡ false = sym c.is_same.ensures ∙ c.if-is_same.false in
-    let logon : logs_on c.args.text.now ≡ true = sym c.logs_on.ensures ∙ c.if-not-logs_on.false in
-    let compared : (let a = c.args in
-    c.has_password.result ≡ same (middle a.text.now) (bytes_of "PG1" ++ password_text a.settings.password)) = (let t = c.args.text.now in
-    let n : length t - 1 - 1 ≡ length t - 2 = omega arith in
-    rw n at c.has_password.ensures) in
+    let here = goal.at.returns c in
     λ pagers array ts h.
-    rw (other, logon, sym compared ∙ c.if-not-has_password.false) (c.enter.ensures array ts h)
+    rw (other here.Else-is_same, logon here.Else-not-logs_on, sym (compared here.After-has_password) ∙ c.if-not-has_password.false) (c.enter.ensures array ts h)
