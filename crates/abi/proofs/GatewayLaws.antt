@@ -8,7 +8,7 @@ use borrow.Author.Tests.{ltb-false}
 use lib.Dec.{ltb}
 use lib.ListN.{length}
 use Rattle.line.proofs.OverlayLaws.{overlay-none}
-use Rattle.line.specs.Answer.{Outcome, done, refused, map_done, written_as}
+use Rattle.line.specs.Answer.{Outcome, done, refused, map_done, outcome_of}
 use Rattle.journal.specs.Storage.{stored_in}
 use Rattle.snpp.specs.Reaction.{answer_text}
 use Rattle.snpp.specs.Step.{Steps, state_behind, length_behind}
@@ -50,7 +50,7 @@ gateway_packed s n (refused k) stage = rw (record_back s stage) refl
 
 -- so what a step owes is owed to a C caller, whose record is made field by field
 pub gateway_steps : (o : Outcome Reacted) {s : GatewayState} {n number : ℕ} {t : Stepped} {a : Answer} {buffer buffer' out out' : List ℕ} → ltb 2 s.stage ≡ false →
-    Steps o (state_of s) n t buffer buffer' out out' → a ≡ answer_of (written_as t.outcome) → number ≡ stage_number t.state.stage →
+    Steps o (state_of s) n t buffer buffer' out out' → a ≡ answer_of (outcome_of t.outcome) → number ≡ stage_number t.state.stage →
     GatewaySteps o s n
     (record {
       answer = a;

@@ -1,13 +1,11 @@
 -- The device's state as a record of numbers, and what its steps owe a C caller.
-use Rattle.std.specs.Prelude.{List, ◌≡◌, ℕ, ◌+◌, eqb, ltb, length, if◌then◌else◌}
+use Rattle.std.specs.Prelude.{List, ◌≡◌, ℕ, ◌+◌, eqb, ltb, length, Option, Some, None, if◌then◌else◌}
 use Rattle.line.specs.Answer.{Outcome, done, refused, map_done, output, overlay}
 use Rattle.reply.specs.declared.remarks.Remarks.{Remarks}
-use Rattle.reply.specs.declared.remarks.Remarks.TheVariants.{Nothing}
 use Rattle.device.specs.Reaction.{place, verdict_number}
 use Rattle.device.specs.Step as Device
 use Rattle.device.specs.declared.settling.Standing.{Standing}
 use Rattle.device.specs.declared.state.Given.{Given}
-use Rattle.device.specs.declared.state.Given.TheVariants as Giving
 use Rattle.device.specs.declared.state.Place.{Place}
 use Rattle.device.specs.declared.state.Report.{Report}
 use Rattle.device.specs.declared.state.Report.TheVariants as Reporting
@@ -57,14 +55,14 @@ step_of s =
 -- ── What a step gives, by number ──
 
 -- the verdict that is given: 0 where there is none
-abbrev pub verdict_in : Given → ℕ
-verdict_in (Giving.Verdict t v) = verdict_number v
-verdict_in Giving.Nothing = 0
+abbrev pub verdict_in : Option Given → ℕ
+verdict_in (Some g) = verdict_number g.verdict
+verdict_in None = 0
 
 -- the transaction that it is given to
-abbrev pub transaction_in : Given → ℕ
-transaction_in (Giving.Verdict t v) = t
-transaction_in Giving.Nothing = 0
+abbrev pub transaction_in : Option Given → ℕ
+transaction_in (Some g) = g.transaction
+transaction_in None = 0
 
 -- the reply to the close: 0 where a step reports none; silence is a reply that is not recognized, so 1
 abbrev pub report_number : Report → ℕ
@@ -82,10 +80,10 @@ device_stepped s settings job reply room =
 -- a refusal by number, which leaves the record and gives nothing
 abbrev pub refusing : DeviceState → ℕ → DeviceStepped
 refusing s n =
-    record { answer = answer_of (refused n); state = s; verdict = 0; transaction = 0; report = 0; standing = 0; remarks = remarks_as Nothing }
+    record { answer = answer_of (refused n); state = s; verdict = 0; transaction = 0; report = 0; standing = 0; remarks = remarks_as None }
 
 -- a count, a move, how the accepted verdicts stand, and the remarks
-abbrev pub giving : ℕ → Step → Given → Report → Standing → Remarks → DeviceStepped
+abbrev pub giving : ℕ → Step → Option Given → Report → Standing → Option Remarks → DeviceStepped
 giving n step given report standing remarks =
     record {
       answer = answer_of (done n);
@@ -103,13 +101,13 @@ packed s (done n) t = giving n t.state.step t.given t.report t.standing t.remark
 packed s (refused n) t = refusing s n
 
 -- the same of what a step comes to, with the remarks in its reply
-abbrev pub device_answer : DeviceState → Remarks → Outcome Device.Sent → DeviceStepped
+abbrev pub device_answer : DeviceState → Option Remarks → Outcome Device.Sent → DeviceStepped
 device_answer s remarks (done x) =
     giving (length x.string) x.move.next x.move.given x.move.report (Device.standing_of (step_of s) (done x)) remarks
 device_answer s remarks (refused n) = refusing s n
 
 -- what a step owes a C caller: the numbers and the record, and the output
 pub record DeviceSteps
-    (o : Outcome Device.Sent) (s : DeviceState) (remarks : Remarks) (r : DeviceStepped) (out out' : List ℕ) : Type 0 where
+    (o : Outcome Device.Sent) (s : DeviceState) (remarks : Option Remarks) (r : DeviceStepped) (out out' : List ℕ) : Type 0 where
   pub answers : r ≡ device_answer s remarks o
   pub leaves : out' ≡ overlay (output (map_done (λ x. x.string) o)) out

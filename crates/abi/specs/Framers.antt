@@ -1,6 +1,5 @@
 -- What the framer owes a C caller.
-use Rattle.std.specs.Prelude.{List, [], ◌≡◌, ℕ, length}
-use Rattle.std.proofs.Math.Option.{Option, get_or}
+use Rattle.std.specs.Prelude.{List, [], ◌≡◌, ℕ, length, Option, unwrap_or}
 use Rattle.line.specs.Answer.{Outcome, count_of, map_done, output, overlay}
 use Rattle.framer.specs.Framing.{Feeding}
 use Rattle.framer.specs.State.{handed, state_after}
@@ -12,7 +11,7 @@ use Rattle.abi.specs.declared.framers.FramerFlushed.{FramerFlushed}
 
 -- a string's length, or none yet, in numbers: none is 0
 abbrev pub framed_answer : Outcome (Option ℕ) → Answer
-framed_answer o = answer_of (map_done (λ n. get_or n 0) o)
+framed_answer o = answer_of (map_done (λ n. unwrap_or n 0) o)
 
 -- what is answered of a feeding: the string's length, the bytes used, the state; a refusal uses none and leaves it (R-13.1)
 abbrev pub fed_answer : Framer → Outcome Feeding → FramerFed

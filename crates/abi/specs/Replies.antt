@@ -1,9 +1,8 @@
 -- The numbers of replies.
-use Rattle.std.specs.Prelude.{ℕ}
+use Rattle.std.specs.Prelude.{ℕ, Some, None}
+use Rattle.reply.specs.Reading.{Reply}
 use Rattle.reply.specs.declared.Meaning.{Meaning}
 use Rattle.reply.specs.declared.Meaning.TheVariants.{IdRequest, Acceptance, Ack, Nak, Rs, Eot}
-use Rattle.reply.specs.declared.Reply.{Reply}
-use Rattle.reply.specs.declared.Reply.TheVariants.{Recognized, Unrecognized}
 
 -- the number of a meaning
 abbrev pub meaning_number : Meaning → ℕ
@@ -16,5 +15,5 @@ meaning_number Eot = 6
 
 -- the number of a reply: 0 where nothing is recognized
 abbrev pub reply_number : Reply → ℕ
-reply_number (Recognized m) = meaning_number m
-reply_number Unrecognized = 0
+reply_number (Some m) = meaning_number m
+reply_number None = 0

@@ -1,10 +1,10 @@
 // What a call comes to, in two numbers.
 ghost use Rattle.std.specs.Prelude.{◌≡◌};
-ghost use Rattle.line.specs.Answer.{checked_as, refusal_number, refused, written_as};
+ghost use Rattle.line.specs.Answer.{outcome_of, refusal_number, refused};
 ghost use Rattle.abi.specs.Answer.{answer_of};
 
-use line::answer::{checked_code, checked_count, code, count, number};
-use line::{Checked, Refusal, Written};
+use line::Refusal;
+use line::answer::{code, count};
 
 // The count, which is 0 for a refusal, and document 01's number, which is 0 where the call is done.
 #[repr(C)]
@@ -14,32 +14,25 @@ pub struct Answer {
     pub code: u8,
 }
 
-// A writer's answer.
-pub(crate) fn of_written(written: Written) -> Answer
-    ensures { result ≡ answer_of (written_as written) }
-{
-    Answer {
-        count: count(written),
-        code: code(written),
+// What a writer or a test answers.
+impl From<Result<usize, Refusal>> for Answer {
+    ghost from_gives = { λ outcome answer. answer ≡ answer_of (outcome_of outcome) };
+
+    fn from(outcome: Result<usize, Refusal>) -> Answer {
+        Answer {
+            count: count(outcome),
+            code: code(outcome),
+        }
     }
 }
 
-// The answer of a test.
-pub(crate) fn of_checked(checked: Checked) -> Answer
-    ensures { result ≡ answer_of (checked_as checked) }
-{
-    Answer {
-        count: checked_count(checked),
-        code: checked_code(checked),
-    }
-}
+impl From<Refusal> for Answer {
+    ghost from_gives = { λ refusal answer. answer ≡ answer_of (refused (refusal_number refusal)) };
 
-// A refusal.
-pub(crate) fn of_refusal(refusal: Refusal) -> Answer
-    ensures { result ≡ answer_of (refused (refusal_number refusal)) }
-{
-    Answer {
-        count: 0,
-        code: number(refusal),
+    fn from(refusal: Refusal) -> Answer {
+        Answer {
+            count: 0,
+            code: u8::from(refusal),
+        }
     }
 }

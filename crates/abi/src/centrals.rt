@@ -1,14 +1,14 @@
 // The central's settings, state and steps as C has them.
-ghost use Rattle.std.specs.Prelude.{◌≡◌};
+ghost use Rattle.std.specs.Prelude.{◌≡◌, ltb, if◌then◌else◌};
 ghost use Rattle.std.proofs.Math.ListN as ListN;
-ghost use Rattle.line.specs.Answer.{written_as};
+ghost use Rattle.line.specs.Answer.{done, outcome_of, refusal_number, refused};
 ghost use Rattle.central.specs.Lent.{start_in};
 ghost use Rattle.abi.specs.Centrals.{CentralSteps, central_dropped, central_stepped, control_of, drop_answer, packed};
 ghost use Rattle.abi.specs.Centrals.{record_of, refusing, stage_number, stage_of};
 ghost use Rattle.abi.specs.Settings.{central_settings_of};
 
-use crate::answer::{Answer, of_refusal, of_written};
-use crate::password::{Password, password_of};
+use crate::answer::Answer;
+use crate::password::Password;
 use central::lent::{hang_up, start, step};
 use central::{Control, Moved, Settings, Stage};
 use line::Refusal;
@@ -38,15 +38,12 @@ pub struct CentralStepped {
     pub state: CentralState,
 }
 
-// The highest number of a stage.
-pub(crate) const STAGES: u8 = 3;
-
 // The state before the first call, over a journal of this length.
 #[unsafe(no_mangle)]
 pub extern "C" fn tyntolai_central_start(journal: usize) -> CentralState
     ensures { result ≡ record_of (start_in journal) }
 {
-    record_of(start(journal))
+    CentralState::from(start(journal))
 }
 
 // What the central does with a string as it came off the line.
@@ -68,18 +65,18 @@ pub extern "C" fn tyntolai_central_step(
         journal.old journal.new
         out.old out.new }
 {
-    if STAGES < state.stage {
-        return refuse(state);
+    match Control::try_from(state) {
+        Ok(control) => CentralStepped::from(step(
+            control,
+            Settings::from(settings),
+            pagers,
+            journal,
+            pending,
+            string,
+            out,
+        )),
+        Err(refusal) => refuse(state, refusal),
     }
-    pack(step(
-        control_of(state),
-        settings_of(settings),
-        pagers,
-        journal,
-        pending,
-        string,
-        out,
-    ))
 }
 
 // The line was dropped.
@@ -91,84 +88,87 @@ pub extern "C" fn tyntolai_central_hang_up(
 ) -> CentralStepped
     ensures { result ≡ drop_answer state (central_dropped state pending.now settings) }
 {
-    if STAGES < state.stage {
-        return refuse(state);
+    match Control::try_from(state) {
+        Ok(control) => CentralStepped::from(hang_up(control, Settings::from(settings), pending)),
+        Err(refusal) => refuse(state, refusal),
     }
-    pack(hang_up(control_of(state), settings_of(settings), pending))
 }
 
 // What a step answers, in numbers.
-pub(crate) fn pack(moved: Moved) -> CentralStepped
-    ensures { result ≡ packed (written_as moved.outcome) moved.control }
-{
-    let outcome = moved.outcome;
-    let control = moved.control;
-    CentralStepped {
-        answer: of_written(outcome),
-        state: record_of(control),
+impl From<Moved> for CentralStepped {
+    ghost from_gives = { λ moved stepped. stepped ≡ packed (outcome_of moved.outcome) moved.control };
+
+    fn from(moved: Moved) -> CentralStepped {
+        CentralStepped {
+            answer: Answer::from(moved.outcome),
+            state: CentralState::from(moved.control),
+        }
     }
 }
 
-// The record has no stage.
-pub(crate) fn refuse(state: CentralState) -> CentralStepped
-    ensures { result ≡ refusing state 9 }
+// A refusal leaves the record.
+pub(crate) fn refuse(state: CentralState, refusal: Refusal) -> CentralStepped
+    ensures { result ≡ refusing state (refusal_number refusal) }
 {
     CentralStepped {
-        answer: of_refusal(Refusal::Range),
+        answer: Answer::from(refusal),
         state,
     }
 }
 
-pub(crate) fn settings_of(settings: CentralSettings) -> Settings
-    ensures { result ≡ central_settings_of settings }
-{
-    let password = settings.password;
-    Settings {
-        password: password_of(password),
-        longest: settings.longest,
-        retries: settings.retries,
+impl From<CentralSettings> for Settings {
+    ghost from_gives = { λ lent settings. settings ≡ central_settings_of lent };
+
+    fn from(settings: CentralSettings) -> Settings {
+        Settings {
+            password: line::Password::from(settings.password),
+            longest: settings.longest,
+            retries: settings.retries,
+        }
     }
 }
 
 // The control that a record is.
-pub(crate) fn control_of(state: CentralState) -> Control
-    ensures { result ≡ control_of state }
-{
-    let stage = stage_of(state.stage);
-    Control {
-        stage,
-        failures: state.failures,
-        length: state.length,
-        journal: state.journal,
+impl TryFrom<CentralState> for Control {
+    type Error = Refusal;
+
+    ghost try_from_gives = { λ state control. outcome_of control ≡ (if ltb 3 state.stage then refused 9 else done (control_of state)) };
+
+    fn try_from(state: CentralState) -> Result<Control, Refusal> {
+        Ok(Control {
+            stage: stage_of(state.stage)?,
+            failures: state.failures,
+            length: state.length,
+            journal: state.journal,
+        })
     }
 }
 
 // The record of a control.
-fn record_of(control: Control) -> CentralState
-    ensures { result ≡ record_of control }
-{
-    let stage = control.stage;
-    CentralState {
-        stage: stage_number(stage),
-        failures: control.failures,
-        length: control.length,
-        journal: control.journal,
+impl From<Control> for CentralState {
+    ghost from_gives = { λ control state. state ≡ record_of control };
+
+    fn from(control: Control) -> CentralState {
+        CentralState {
+            stage: stage_number(control.stage),
+            failures: control.failures,
+            length: control.length,
+            journal: control.journal,
+        }
     }
 }
 
-fn stage_of(number: u8) -> Stage
-    ensures { result ≡ stage_of number }
+// The numbers are C's alone, and a `From` for central's enum can't stand here.
+fn stage_of(number: u8) -> Result<Stage, Refusal>
+    ensures { outcome_of result ≡ (if ltb 3 number then refused 9 else done (stage_of number)) }
 {
-    if number == 0 {
-        return Stage::Idle;
+    match number {
+        0 => Ok(Stage::Idle),
+        1 => Ok(Stage::Logon),
+        2 => Ok(Stage::Block),
+        3 => Ok(Stage::Closed),
+        _ => Err(Refusal::Range),
     }
-    if number == 1 {
-        return Stage::Logon;
-    }
-    if number == 2 {
-        return Stage::Block;
-    }
-    Stage::Closed
 }
 
 fn stage_number(stage: Stage) -> u8

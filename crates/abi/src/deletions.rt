@@ -2,7 +2,8 @@
 ghost use Rattle.delete.specs.Deletion.{deleted, deleted_pager};
 ghost use Rattle.abi.specs.Deletions.{CentralDeletes, deleted_at};
 
-use crate::centrals::{CentralState, CentralStepped, STAGES, control_of, pack, refuse};
+use crate::centrals::{CentralState, CentralStepped, refuse};
+use central::Control;
 use delete::lent::{delete, delete_pager};
 
 // Without the n-th record from the newest, which is 1.
@@ -15,10 +16,10 @@ pub extern "C" fn tyntolai_delete(
     ensures { CentralDeletes (deleted_at state (λ s. deleted s journal.old n)) state result
         journal.old journal.new }
 {
-    if STAGES < state.stage {
-        return refuse(state);
+    match Control::try_from(state) {
+        Ok(control) => CentralStepped::from(delete(control, journal, n)),
+        Err(refusal) => refuse(state, refusal),
     }
-    pack(delete(control_of(state), journal, n))
 }
 
 // Without every record for a pager number.
@@ -31,8 +32,8 @@ pub extern "C" fn tyntolai_delete_pager(
     ensures { CentralDeletes (deleted_at state (λ s. deleted_pager s journal.old number)) state result
         journal.old journal.new }
 {
-    if STAGES < state.stage {
-        return refuse(state);
+    match Control::try_from(state) {
+        Ok(control) => CentralStepped::from(delete_pager(control, journal, number)),
+        Err(refusal) => refuse(state, refusal),
     }
-    pack(delete_pager(control_of(state), journal, number))
 }

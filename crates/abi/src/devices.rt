@@ -1,24 +1,21 @@
 // The entry device's settings, state and steps as C has them.
-ghost use Rattle.std.specs.Prelude.{◌≡◌, length};
-ghost use Rattle.line.specs.Answer.{refusal_number, written_as};
-ghost use Rattle.reply.specs.declared.remarks.Remarks.TheVariants as Remark;
+ghost use Rattle.std.specs.Prelude.{◌≡◌, ltb, length, None, if◌then◌else◌};
+ghost use Rattle.line.specs.Answer.{done, outcome_of, refusal_number, refused};
 ghost use Rattle.device.specs.Remarks.{remarks_at};
 ghost use Rattle.device.specs.Step.{started};
 ghost use Rattle.abi.specs.Devices.{DeviceSteps, device_stepped, filled, packed, record_of, refusing};
 ghost use Rattle.abi.specs.Devices.{report_number, step_of, stopped, transaction_in, verdict_in};
-ghost use Rattle.abi.specs.Settings.{device_settings_of, has_numbers, of_settings};
+ghost use Rattle.abi.specs.Settings.{device_settings_of, of_settings};
 
-use crate::answer::{Answer, of_refusal, of_written};
-use crate::password::{Password, password_of};
-use crate::remarks;
+use crate::answer::Answer;
+use crate::password::Password;
 use crate::remarks::Remarks;
 use crate::replies::reply_number;
-use crate::settling::{CONFIRMATIONS, confirmation_of, standing_number};
-use crate::way::{WAYS, way_of};
-use device::state::verdict_number;
+use crate::settling::{confirmation_of, standing_number};
+use crate::way::way_of;
 use device::step::{start, step};
 use device::{Given, Place, Report, Settings, State, Step, Stepped};
-use line::{Refusal, Written};
+use line::Refusal;
 
 // The way of cutting by its number: 0 filled, 1 whole fields; and when an accepted verdict stands: 0 early,
 // 1 late.
@@ -58,9 +55,6 @@ pub struct DeviceStepped {
     pub remarks: Remarks,
 }
 
-// The highest number of a step.
-const STEPS: u8 = 4;
-
 // The start of a call for a job.
 #[unsafe(no_mangle)]
 pub extern "C" fn tyntolai_device_start(
@@ -70,13 +64,13 @@ pub extern "C" fn tyntolai_device_start(
 ) -> DeviceStepped
     ensures { DeviceSteps
         (of_settings settings (started (device_settings_of settings) job.now (length out.old)))
-        stopped Remark.Nothing result out.old out.new }
+        stopped None result out.old out.new }
 {
-    let stopped = record_of(Step::Stopped);
-    if !has_numbers(settings) {
-        return refuse(stopped, Refusal::Range);
+    let stopped = DeviceState::from(Step::Stopped);
+    match Settings::try_from(settings) {
+        Ok(settings) => pack(stopped, start(settings, job, out)),
+        Err(refusal) => refuse(stopped, refusal),
     }
-    pack(stopped, start(settings_of(settings), job, out))
 }
 
 // What the device does with a reply as it came off the line.
@@ -92,45 +86,33 @@ pub extern "C" fn tyntolai_device_step(
         (device_stepped state settings job.now reply.now (length out.old))
         state (remarks_at (step_of state) reply.now) result out.old out.new }
 {
-    if STEPS < state.step {
+    let Ok(step_now) = Step::try_from(state) else {
         return refuse(state, Refusal::Range);
+    };
+    match Settings::try_from(settings) {
+        Ok(settings) => pack(
+            state,
+            step(State { step: step_now }, settings, job, reply, out),
+        ),
+        Err(refusal) => refuse(state, refusal),
     }
-    if !has_numbers(settings) {
-        return refuse(state, Refusal::Range);
-    }
-    let step_now = step_of(state);
-    let stepped = step(
-        State { step: step_now },
-        settings_of(settings),
-        job,
-        reply,
-        out,
-    );
-    pack(state, stepped)
 }
 
 // What a step answers: a refusal leaves the record.
 fn pack(state: DeviceState, stepped: Stepped) -> DeviceStepped
-    ensures { result ≡ packed state (written_as stepped.outcome) stepped }
+    ensures { result ≡ packed state (outcome_of stepped.outcome) stepped }
 {
-    let outcome = stepped.outcome;
-    let after = stepped.state;
-    let step = after.step;
-    let given = stepped.given;
-    let report = stepped.report;
-    let standing = stepped.standing;
-    let shown = stepped.remarks;
-    match outcome {
-        Written::Count(_) => DeviceStepped {
-            answer: of_written(outcome),
-            state: record_of(step),
-            verdict: verdict_in(given),
-            transaction: transaction_in(given),
-            report: report_number(report),
-            standing: standing_number(standing),
-            remarks: remarks::record_of(shown),
+    match stepped.outcome {
+        Ok(count) => DeviceStepped {
+            answer: Answer { count, code: 0 },
+            state: DeviceState::from(stepped.state.step),
+            verdict: verdict_in(stepped.given),
+            transaction: transaction_in(stepped.given),
+            report: report_number(stepped.report),
+            standing: standing_number(stepped.standing),
+            remarks: Remarks::from(stepped.remarks),
         },
-        Written::Refused(refusal) => refuse(state, refusal),
+        Err(refusal) => refuse(state, refusal),
     }
 }
 
@@ -138,74 +120,72 @@ fn refuse(state: DeviceState, refusal: Refusal) -> DeviceStepped
     ensures { result ≡ refusing state (refusal_number refusal) }
 {
     DeviceStepped {
-        answer: of_refusal(refusal),
+        answer: Answer::from(refusal),
         state,
         verdict: 0,
         transaction: 0,
         report: 0,
         standing: 0,
-        remarks: remarks::record_of(reply::Remarks::Nothing),
+        remarks: Remarks::from(None),
     }
 }
 
-// The way's number names a way, and the confirmation's a confirmation.
-pub(crate) fn has_numbers(settings: DeviceSettings) -> bool
-    ensures { result ≡ has_numbers settings }
-{
-    (settings.way <= WAYS) & (settings.confirmation <= CONFIRMATIONS)
-}
+// The settings whose way and confirmation are numbered.
+impl TryFrom<DeviceSettings> for Settings {
+    type Error = Refusal;
 
-pub(crate) fn settings_of(settings: DeviceSettings) -> Settings
-    ensures { result ≡ device_settings_of settings }
-{
-    let password = settings.password;
-    Settings {
-        password: password_of(password),
-        retries: settings.retries,
-        way: way_of(settings.way),
-        confirmation: confirmation_of(settings.confirmation),
+    ghost try_from_gives = { λ lent settings. outcome_of settings ≡ of_settings lent (done (device_settings_of lent)) };
+
+    fn try_from(settings: DeviceSettings) -> Result<Settings, Refusal> {
+        Ok(Settings {
+            password: line::Password::from(settings.password),
+            retries: settings.retries,
+            way: way_of(settings.way)?,
+            confirmation: confirmation_of(settings.confirmation)?,
+        })
     }
 }
 
 // The step that a record is.
-fn step_of(state: DeviceState) -> Step
-    ensures { result ≡ step_of state }
-{
-    let place = Place {
-        transaction: state.transaction,
-        block: state.block,
-        attempts: state.attempts,
-    };
-    if state.step == 1 {
-        return Step::Opening(place);
+impl TryFrom<DeviceState> for Step {
+    type Error = Refusal;
+
+    ghost try_from_gives = { λ state step. outcome_of step ≡ (if ltb 4 state.step then refused 9 else done (step_of state)) };
+
+    fn try_from(state: DeviceState) -> Result<Step, Refusal> {
+        let place = Place {
+            transaction: state.transaction,
+            block: state.block,
+            attempts: state.attempts,
+        };
+        match state.step {
+            0 => Ok(Step::Stopped),
+            1 => Ok(Step::Opening(place)),
+            2 => Ok(Step::Logon(place)),
+            3 => Ok(Step::Sending(place)),
+            4 => Ok(Step::Closing(place)),
+            _ => Err(Refusal::Range),
+        }
     }
-    if state.step == 2 {
-        return Step::Logon(place);
-    }
-    if state.step == 3 {
-        return Step::Sending(place);
-    }
-    if state.step == 4 {
-        return Step::Closing(place);
-    }
-    Step::Stopped
 }
 
 // The record of a step.
-fn record_of(step: Step) -> DeviceState
-    ensures { result ≡ record_of step }
-{
-    match step {
-        Step::Opening(place) => fill(1, place),
-        Step::Logon(place) => fill(2, place),
-        Step::Sending(place) => fill(3, place),
-        Step::Closing(place) => fill(4, place),
-        Step::Stopped => DeviceState {
-            step: 0,
-            transaction: 0,
-            block: 0,
-            attempts: 0,
-        },
+impl From<Step> for DeviceState {
+    ghost from_gives = { λ step state. state ≡ record_of step };
+
+    fn from(step: Step) -> DeviceState {
+        match step {
+            Step::Opening(place) => fill(1, place),
+            Step::Logon(place) => fill(2, place),
+            Step::Sending(place) => fill(3, place),
+            Step::Closing(place) => fill(4, place),
+            Step::Stopped => DeviceState {
+                step: 0,
+                transaction: 0,
+                block: 0,
+                attempts: 0,
+            },
+        }
     }
 }
 
@@ -220,24 +200,25 @@ fn fill(step: u8, place: Place) -> DeviceState
     }
 }
 
-fn verdict_in(given: Given) -> u8
+fn verdict_in(given: Option<Given>) -> u8
     ensures { result ≡ verdict_in given }
 {
     match given {
-        Given::Verdict(_, verdict) => verdict_number(verdict),
-        Given::Nothing => 0,
+        Some(given) => u8::from(given.verdict),
+        None => 0,
     }
 }
 
-fn transaction_in(given: Given) -> usize
+fn transaction_in(given: Option<Given>) -> usize
     ensures { result ≡ transaction_in given }
 {
     match given {
-        Given::Verdict(transaction, _) => transaction,
-        Given::Nothing => 0,
+        Some(given) => given.transaction,
+        None => 0,
     }
 }
 
+// The numbers are C's alone, and a `From` for device's enum can't stand here.
 fn report_number(report: Report) -> u8
     ensures { result ≡ report_number report }
 {

@@ -1,11 +1,13 @@
 // The framer as C has it; its state is laid out as C has it already.
 ghost use Rattle.std.specs.Prelude.{◌≡◌};
 ghost use Rattle.std.proofs.Math.ListN as ListN;
-ghost use Rattle.framer.specs.State.{fed_to, flushed, framed_as};
+ghost use Rattle.line.specs.Answer.{outcome_of};
+ghost use Rattle.framer.specs.State.{fed_to, flushed};
 ghost use Rattle.abi.specs.Framers.{FramerFeeds, FramerFlushes, framed_answer};
 
-use crate::answer::{Answer, of_refusal, of_written};
-use framer::{Framed, Framer, feed, flush};
+use crate::answer::Answer;
+use framer::{Framer, feed, flush};
+use line::Refusal;
 
 // The count is the length of the string, or 0 where none is complete yet; and how many bytes were used.
 #[repr(C)]
@@ -31,12 +33,10 @@ pub extern "C" fn tyntolai_framer_feed(state: Framer, bytes: &[u8], out: &mut [u
         state result out.old out.new }
 {
     let fed = feed(state, bytes, out);
-    let outcome = fed.outcome;
-    let after = fed.state;
     FramerFed {
-        answer: of_framed(outcome),
+        answer: of_framed(fed.outcome),
         used: fed.used,
-        state: after,
+        state: fed.state,
     }
 }
 
@@ -48,24 +48,21 @@ pub extern "C" fn tyntolai_framer_flush(state: Framer, out: &mut [u8]) -> Framer
         state result out.old out.new }
 {
     let flushed = flush(state, out);
-    let outcome = flushed.outcome;
-    let after = flushed.state;
     FramerFlushed {
-        answer: of_written(outcome),
-        state: after,
+        answer: Answer::from(flushed.outcome),
+        state: flushed.state,
     }
 }
 
 // What feeding answers, in numbers.
-fn of_framed(framed: Framed) -> Answer
-    ensures { result ≡ framed_answer (framed_as framed) }
+fn of_framed(outcome: Result<Option<usize>, Refusal>) -> Answer
+    ensures { result ≡ framed_answer (outcome_of outcome) }
 {
-    match framed {
-        Framed::Whole(length) => Answer {
-            count: length,
+    match outcome {
+        Ok(string) => Answer {
+            count: string.unwrap_or(0),
             code: 0,
         },
-        Framed::Partial => Answer { count: 0, code: 0 },
-        Framed::Refused(refusal) => of_refusal(refusal),
+        Err(refusal) => Answer::from(refusal),
     }
 }

@@ -1,14 +1,14 @@
 // The gateway's settings, state and steps as C has them, and the journal written out.
-ghost use Rattle.std.specs.Prelude.{◌≡◌};
+ghost use Rattle.std.specs.Prelude.{◌≡◌, ltb, if◌then◌else◌};
 ghost use Rattle.std.proofs.Math.ListN as ListN;
-ghost use Rattle.line.specs.Answer.{copied};
+ghost use Rattle.line.specs.Answer.{copied, done, outcome_of, refused};
 ghost use Rattle.export.specs.Export.{written_out};
 ghost use Rattle.snpp.specs.Reaction.{answer_text, ready};
 ghost use Rattle.snpp.specs.Step.{start_state};
 ghost use Rattle.abi.specs.Answer.{Puts};
 ghost use Rattle.abi.specs.Gateways.{GatewaySteps, gateway_stepped, record_of, stage_number, stage_of};
 
-use crate::answer::{Answer, of_refusal, of_written};
+use crate::answer::Answer;
 use export::write_out;
 use line::Refusal;
 use snpp::answer::greeting;
@@ -40,9 +40,6 @@ pub struct GatewayStepped {
     pub journal: usize,
 }
 
-// The highest number of a stage.
-const STAGES: u8 = 2;
-
 // The state before the first line.
 #[unsafe(no_mangle)]
 pub extern "C" fn tyntolai_snpp_start() -> GatewayState
@@ -64,7 +61,7 @@ pub extern "C" fn tyntolai_snpp_greeting(out: &mut [u8]) -> Answer
         (copied (answer_text ready) (ListN.length out.old))
         result out.old out.new }
 {
-    of_written(greeting(out))
+    Answer::from(greeting(out))
 }
 
 // What the gateway does with a line, its ending off, over the journal of this length at the start of its
@@ -84,18 +81,18 @@ pub extern "C" fn tyntolai_snpp_step(
         (ListN.length out.old))
         state length result journal.old journal.new out.old out.new }
 {
-    if STAGES < state.stage {
+    let Ok(stage) = stage_of(state.stage) else {
         return GatewayStepped {
-            answer: of_refusal(Refusal::Range),
+            answer: Answer::from(Refusal::Range),
             state,
             journal: length,
         };
-    }
+    };
     let pager = state.pager;
     let message = state.message;
     let stepped = step(
         State {
-            stage: stage_of(state.stage),
+            stage,
             pager,
             digits: state.digits,
             message,
@@ -110,15 +107,13 @@ pub extern "C" fn tyntolai_snpp_step(
         line,
         out,
     );
-    let outcome = stepped.outcome;
     let after = stepped.state;
-    let next = after.stage;
     let pager = after.pager;
     let message = after.message;
     GatewayStepped {
-        answer: of_written(outcome),
+        answer: Answer::from(stepped.outcome),
         state: GatewayState {
-            stage: stage_number(next),
+            stage: stage_number(after.stage),
             pager,
             digits: after.digits,
             message,
@@ -135,19 +130,19 @@ pub extern "C" fn tyntolai_write_out(journal: &[u8], out: &mut [u8]) -> Answer
         (written_out journal.now (ListN.length out.old))
         result out.old out.new }
 {
-    of_written(write_out(journal, out))
+    Answer::from(write_out(journal, out))
 }
 
-fn stage_of(number: u8) -> Stage
-    ensures { result ≡ stage_of number }
+// The numbers are C's alone, and a `From` for snpp's enum can't stand here.
+fn stage_of(number: u8) -> Result<Stage, Refusal>
+    ensures { outcome_of result ≡ (if ltb 2 number then refused 9 else done (stage_of number)) }
 {
-    if number == 0 {
-        return Stage::Open;
+    match number {
+        0 => Ok(Stage::Open),
+        1 => Ok(Stage::Entered),
+        2 => Ok(Stage::Closed),
+        _ => Err(Refusal::Range),
     }
-    if number == 1 {
-        return Stage::Entered;
-    }
-    Stage::Closed
 }
 
 fn stage_number(stage: Stage) -> u8

@@ -6,7 +6,7 @@ ghost use Rattle.journal.specs.Walk.{decode};
 ghost use Rattle.append.specs.Append.{append_to};
 ghost use Rattle.abi.specs.Answer.{Puts, answer_of};
 
-use crate::answer::{Answer, of_checked, of_written};
+use crate::answer::Answer;
 use append::append;
 use journal::record::check;
 
@@ -15,7 +15,7 @@ use journal::record::check;
 pub extern "C" fn tyntolai_check_journal(journal: &[u8]) -> Answer
     ensures { result ≡ answer_of (map_done ListN.length (decode journal.now)) }
 {
-    of_checked(check(journal))
+    Answer::from(check(journal))
 }
 
 // One transaction more in the journal of this length at the start of the buffer.
@@ -24,5 +24,5 @@ pub extern "C" fn tyntolai_append(buffer: &mut [u8], length: usize, info: &[u8])
     ensures { Puts (append_to buffer.old length info.now)
         result buffer.old buffer.new }
 {
-    of_written(append(buffer, length, info))
+    Answer::from(append(buffer, length, info))
 }

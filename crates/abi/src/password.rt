@@ -10,12 +10,14 @@ pub struct Password {
     pub length: usize,
 }
 
-pub(crate) fn password_of(password: Password) -> line::Password
-    ensures { result ≡ password_of password }
-{
-    let characters = password.characters;
-    line::Password {
-        characters,
-        length: password.length,
+impl From<Password> for line::Password {
+    ghost from_gives = { λ lent password. password ≡ password_of lent };
+
+    fn from(password: Password) -> line::Password {
+        let characters = password.characters;
+        line::Password {
+            characters,
+            length: password.length,
+        }
     }
 }

@@ -3,8 +3,8 @@ ghost use Rattle.std.specs.Prelude.{◌≡◌};
 ghost use Rattle.reply.specs.Remarks.{remarks_read};
 ghost use Rattle.abi.specs.Remarks.{remarks_as};
 
+use reply::Span;
 use reply::remarks::read_remarks;
-use reply::{IdLine, Span};
 
 // What there is: 0 no places, 1 the lines before the code, 2 also one that begins with `ID`; where
 // the lines stand, and the last such line. A part that there is not is 0 and 0.
@@ -21,31 +21,32 @@ pub struct Remarks {
 pub extern "C" fn tyntolai_read_remarks(bytes: &[u8]) -> Remarks
     ensures { result ≡ remarks_as (remarks_read bytes.now) }
 {
-    record_of(read_remarks(bytes))
+    Remarks::from(read_remarks(bytes))
 }
 
-// The record of remarks.
-pub(crate) fn record_of(remarks: reply::Remarks) -> Remarks
-    ensures { result ≡ remarks_as remarks }
-{
-    let none = Span { begin: 0, end: 0 };
-    match remarks {
-        reply::Remarks::At(lines, line) => match line {
-            IdLine::At(id) => Remarks {
+impl From<Option<reply::Remarks>> for Remarks {
+    ghost from_gives = { λ remarks numbers. numbers ≡ remarks_as remarks };
+
+    fn from(remarks: Option<reply::Remarks>) -> Remarks {
+        let none = Span { begin: 0, end: 0 };
+        let Some(remarks) = remarks else {
+            return Remarks {
+                found: 0,
+                lines: none,
+                id: none,
+            };
+        };
+        match remarks.id_line {
+            Some(id) => Remarks {
                 found: 2,
-                lines,
+                lines: remarks.lines,
                 id,
             },
-            IdLine::Nothing => Remarks {
+            None => Remarks {
                 found: 1,
-                lines,
+                lines: remarks.lines,
                 id: none,
             },
-        },
-        reply::Remarks::Nothing => Remarks {
-            found: 0,
-            lines: none,
-            id: none,
-        },
+        }
     }
 }

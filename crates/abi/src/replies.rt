@@ -13,13 +13,14 @@ pub extern "C" fn tyntolai_read_reply(bytes: &[u8]) -> u8
     reply_number(read(bytes))
 }
 
-// 0 where nothing is recognized, else the meaning's number.
+// 0 where nothing is recognized, else the meaning's number. The numbers are C's alone, and a `From` for
+// reply's types can't stand here.
 pub(crate) fn reply_number(reply: Reply) -> u8
     ensures { result ≡ reply_number reply }
 {
     match reply {
-        Reply::Recognized(meaning) => meaning_number(meaning),
-        Reply::Unrecognized => 0,
+        Some(meaning) => meaning_number(meaning),
+        None => 0,
     }
 }
 

@@ -1,16 +1,16 @@
 // The run of both ends as C has it.
 ghost use Rattle.std.specs.Prelude.{◌≡◌};
 ghost use Rattle.std.proofs.Math.ListN as ListN;
-ghost use Rattle.call.specs.Call.{called, ran_as};
+ghost use Rattle.line.specs.Answer.{outcome_of};
+ghost use Rattle.call.specs.Call.{called};
 ghost use Rattle.abi.specs.Run.{CallRuns, setup_of, totals_in};
 ghost use Rattle.abi.specs.Settings.{of_settings};
 
-use crate::centrals::{CentralSettings, settings_of as central_settings};
-use crate::devices::{DeviceSettings, has_numbers, settings_of as device_settings};
-use call::Ran;
+use crate::centrals::CentralSettings;
+use crate::devices::DeviceSettings;
+use call::Totals;
 use call::run::run;
 use line::Refusal;
-use line::answer::number;
 
 // The strings that the device put out, the journal's new length, and document 01's number.
 #[repr(C)]
@@ -41,34 +41,36 @@ pub extern "C" fn tyntolai_run(
         journal.old journal.new
         verdicts.old verdicts.new }
 {
-    if !has_numbers(device) {
-        return pack_totals(Ran::Refused(Refusal::Range));
+    match device::Settings::try_from(device) {
+        Ok(device) => RunTotals::from(run(
+            job,
+            device,
+            central::Settings::from(central),
+            pagers,
+            journal,
+            length,
+            faults,
+            verdicts,
+        )),
+        Err(refusal) => RunTotals::from(Err(refusal)),
     }
-    pack_totals(run(
-        job,
-        device_settings(device),
-        central_settings(central),
-        pagers,
-        journal,
-        length,
-        faults,
-        verdicts,
-    ))
 }
 
-fn pack_totals(ran: Ran) -> RunTotals
-    ensures { result ≡ totals_in (ran_as ran) }
-{
-    match ran {
-        Ran::Done(totals) => RunTotals {
-            transmissions: totals.transmissions,
-            journal: totals.journal,
-            code: 0,
-        },
-        Ran::Refused(refusal) => RunTotals {
-            transmissions: 0,
-            journal: 0,
-            code: number(refusal),
-        },
+impl From<Result<Totals, Refusal>> for RunTotals {
+    ghost from_gives = { λ ran totals. totals ≡ totals_in (outcome_of ran) };
+
+    fn from(ran: Result<Totals, Refusal>) -> RunTotals {
+        match ran {
+            Ok(totals) => RunTotals {
+                transmissions: totals.transmissions,
+                journal: totals.journal,
+                code: 0,
+            },
+            Err(refusal) => RunTotals {
+                transmissions: 0,
+                journal: 0,
+                code: u8::from(refusal),
+            },
+        }
     }
 }

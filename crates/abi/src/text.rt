@@ -9,13 +9,12 @@ ghost use Rattle.abi.specs.Answer.{Puts, answer_of};
 ghost use Rattle.abi.specs.Settings.{of_way, way_of};
 ghost use Rattle.abi.specs.Text.{write_ended};
 
-use crate::answer::{Answer, of_refusal, of_written};
-use crate::way::{WAYS, way_of};
+use crate::answer::Answer;
+use crate::way::way_of;
+use block::Ending;
 use block::checksum::{add, sum_characters};
 use block::frame::{inside, read, write};
-use block::{Ending, Reading};
 use line::Refusal;
-use line::character::{ETB, ETX, US};
 use line::memory::copy;
 use line::parity::{clear_parity, set_parity};
 use segmentation::write_segments;
@@ -26,7 +25,7 @@ pub extern "C" fn tyntolai_set_parity(text: &[u8], out: &mut [u8]) -> Answer
     ensures { Puts (parity_on text.now (length out.old))
         result out.old out.new }
 {
-    of_written(set_parity(text, out))
+    Answer::from(set_parity(text, out))
 }
 
 // Bytes of the line to characters, tested for even parity.
@@ -35,7 +34,7 @@ pub extern "C" fn tyntolai_clear_parity(line: &[u8], out: &mut [u8]) -> Answer
     ensures { Puts (parity_off line.now (length out.old))
         result out.old out.new }
 {
-    of_written(clear_parity(line, out))
+    Answer::from(clear_parity(line, out))
 }
 
 // The sum of the 7-bit values, modulo 4,096.
@@ -61,7 +60,7 @@ pub extern "C" fn tyntolai_check_characters(sum: u16, out: &mut [u8]) -> Answer
         result out.old out.new }
 {
     let check = sum_characters(sum);
-    of_written(copy(&check, out))
+    Answer::from(copy(&check, out))
 }
 
 // A block of the information with the ending of this character.
@@ -70,16 +69,10 @@ pub extern "C" fn tyntolai_write_block(info: &[u8], ending: u8, out: &mut [u8]) 
     ensures { Puts (write_ended info.now ending (length out.old))
         result out.old out.new }
 {
-    if ending == ETX {
-        return of_written(write(info, Ending::Etx, out));
+    match Ending::try_from(ending) {
+        Ok(ending) => Answer::from(write(info, ending, out)),
+        Err(_) => Answer::from(Refusal::Range),
     }
-    if ending == ETB {
-        return of_written(write(info, Ending::Etb, out));
-    }
-    if ending == US {
-        return of_written(write(info, Ending::Us, out));
-    }
-    of_refusal(Refusal::Range)
 }
 
 // The length of the information of the block that the text is; it lies right behind STX.
@@ -87,13 +80,12 @@ pub extern "C" fn tyntolai_write_block(info: &[u8], ending: u8, out: &mut [u8]) 
 pub extern "C" fn tyntolai_read_block(text: &[u8]) -> Answer
     ensures { result ≡ answer_of (map_done (λ g. length g.info) (read_block text.now)) }
 {
-    let reading = read(text);
-    match reading {
-        Reading::Block(_) => Answer {
+    match read(text) {
+        Ok(_) => Answer {
             count: inside(text).len(),
             code: 0,
         },
-        Reading::Refused(refusal) => of_refusal(refusal),
+        Err(refusal) => Answer::from(refusal),
     }
 }
 
@@ -103,8 +95,8 @@ pub extern "C" fn tyntolai_write_segments(way: u8, info: &[u8], out: &mut [u8]) 
     ensures { Puts (of_way way (write_segments (way_of way) info.now (length out.old)))
         result out.old out.new }
 {
-    if WAYS < way {
-        return of_refusal(Refusal::Range);
+    match way_of(way) {
+        Ok(way) => Answer::from(write_segments(way, info, out)),
+        Err(refusal) => Answer::from(refusal),
     }
-    of_written(write_segments(way_of(way), info, out))
 }

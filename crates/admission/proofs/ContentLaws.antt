@@ -1,11 +1,12 @@
--- Laws of the content rules: counting fields, reading a number and searching the list as loops do them; the first field and its end;
+-- Laws of the content rules: counting fields and reading a number as loops do them, and searching the list; the first field and its end;
 -- and what the rules say of a transaction by its fields.
+use Rattle.std.specs.List.{list_any}
 use Rattle.std.specs.Prelude.{if◌then◌else◌}
 use mathlib.Core.Bool.{Bool, true, false, and-eq-true_iff}
 use mathlib.Core.List.{List, [], ◌∷◌, ◌++◌}
 use mathlib.Core.Path.{◌≡◌, refl, sym, ◌∙◌}
 use Prim.Native.Nat.{ℕ, suc, ◌+◌, ◌-◌, ◌*◌, ◌^◌, ◌≤◌, ◌<◌}
-use native.Mathlib.Nat.{pow-suc, pow-le-pow_right}
+use native.Mathlib.Nat.{pow-suc}
 use native.Mathlib.Numerals.{add-one}
 use native.Mathlib.Omega.{arith}
 use borrow.Author.Tests.{leb-true, eqb-true, eq-eqb, ne_eqb}
@@ -13,6 +14,7 @@ use lib.Dec.{eqb, leb}
 use lib.ListN.{length, get_or, take, drop, drop_of_length-le}
 use lib.Seq.{drop-cons}
 use Rattle.line.proofs.FindLaws.{before-within}
+use Rattle.line.proofs.SameLaws.{eqb_turned}
 use Rattle.line.proofs.TransactionLaws.{legal-transaction}
 use Rattle.line.specs.Character.{CR, printable, digit}
 use Rattle.line.specs.Test.{all, before}
@@ -51,12 +53,6 @@ digit-range c h =
 pub number-below : (n d i : ℕ) → n < 10 ^ i → d ≤ 9 → n * 10 + d < 10 ^ (i + 1)
 number-below n d i h k = rw (add-one, pow-suc 10 i) (omega arith)
 
--- numbers of fewer than 8 digits
-pub below_most : (n i : ℕ) → n < 10 ^ i → i < 8 → n < 10000000
-below_most n i h k =
-    let most : 10 ^ i ≤ 10 ^ 7 = pow-le-pow_right (omega arith) {j = 7} (omega arith) in
-    omega arith
-
 -- a loop that has read the number n before the place i: the rest goes on from it
 module _ (ds : List ℕ) (i n : ℕ) (rest : number_from 0 ds ≡ number_from n (drop i ds)) where
   -- the digit at i is read
@@ -69,22 +65,11 @@ module _ (ds : List ℕ) (i n : ℕ) (rest : number_from 0 ds ≡ number_from n 
   unfolding number_from
   number-ended h = sym (rest ∙ rw (drop_of_length-le ds h))
 
--- a loop that has not found n before the place i: the rest decides
-module _ (n : ℕ) (ms : List ℕ) (i : ℕ) (rest : listed n ms ≡ listed n (drop i ms)) where
-  -- it stands at i
-  pub listed_here : n ≡ get_or ms i 0 → i < length ms → true ≡ listed n ms
-  unfolding listed
-  listed_here e h = sym (rest ∙ rw (drop-cons ms i 0 h, eq-eqb n (get_or ms i 0) e))
-
-  -- another stands at i
-  pub listed-further : (n ≡ get_or ms i 0 → ⊥) → i < length ms → listed n ms ≡ listed n (drop (i + 1) ms)
-  unfolding listed
-  listed-further e h = rest ∙ rw (add-one, drop-cons ms i 0 h, ne_eqb n (get_or ms i 0) e)
-
-  -- none is left
-  pub listed-ended : length ms ≤ i → false ≡ listed n ms
-  unfolding listed
-  listed-ended h = sym (rest ∙ rw (drop_of_length-le ms h))
+-- one of the list is one that is equal
+pub any-listed : (n : ℕ) (ms : List ℕ) → list_any (λ m. eqb m n) ms ≡ listed n ms
+unfolding listed
+any-listed n [] = refl
+any-listed n (m ∷ ms) = rw (eqb_turned m n, any-listed n ms)
 
 -- the first field is what stands before the first CR
 pub first-before : (t : List ℕ) → first_field t ≡ take (before CR t) t

@@ -6,59 +6,39 @@ ghost use Rattle.std.proofs.Math.ListN as ListN;
 ghost use Rattle.line.specs.Test.{all};
 ghost use Rattle.line.specs.Character.{digit};
 ghost use Rattle.admission.specs.Admission.{Admits, admit_to};
-ghost use Rattle.admission.specs.Content.{content, field_count, is_for, is_page, is_pager_id, listed, number_from, pages};
+ghost use Rattle.admission.specs.Content.{content, field_count, is_for, is_page, is_pager_id, number_from, pages};
 
 use append::extend;
-use journal::Opened;
 use journal::buffer::open_in;
+use line::Refusal;
 use line::character::{CR, Class, are};
 use line::memory::find;
 use line::transaction::check_transaction;
-use line::{Checked, Refusal, Written};
-
-// What becomes of information that is offered to a journal.
-#[derive(Clone, Copy)]
-pub enum Admitted {
-    // It is stored: the journal's new length.
-    Stored(usize),
-    // Its content is not admitted, or there is no room: nothing is stored.
-    Rejected,
-    // The buffer, the journal's trailer or the information is wrong.
-    Refused(Refusal),
-}
 
 // The most digits of a pager number.
 const DIGITS: usize = 8;
 
 // The information goes into the journal of this length at the start of the buffer, where content
-// and room admit it. The journal's records were checked before: none is looked at.
+// and room admit it: the journal's new length, and none where it is rejected and nothing is stored.
+// Refused where the buffer, the journal's trailer or the information is wrong. The journal's records
+// were checked before: none is looked at.
 pub fn admit(
     info: &[u8],
     longest: usize,
     pagers: &[u32],
     journal: &mut [u8],
     length: usize,
-) -> Admitted
+) -> Result<Option<usize>, Refusal>
     ensures { Admits (admit_to longest pagers.now journal.old length info.now)
         result journal.old journal.new }
 {
-    let opened = open_in(journal, length);
-    if let Opened::Refused(refusal) = opened {
-        return Admitted::Refused(refusal);
-    }
-    let checked = check_transaction(info);
-    if let Checked::Refused(refusal) = checked {
-        return Admitted::Refused(refusal);
-    }
+    open_in(journal, length)?;
+    check_transaction(info)?;
     if !has_content(info, longest, pagers) {
-        return Admitted::Rejected;
+        return Ok(None);
     }
     // Refused for want of room alone.
-    let written = extend(journal, length, info);
-    match written {
-        Written::Count(n) => Admitted::Stored(n),
-        Written::Refused(_) => Admitted::Rejected,
-    }
+    Ok(extend(journal, length, info).ok())
 }
 
 // At most so many characters, two fields, and the first of 1 to 8 digits whose number is listed.
@@ -80,12 +60,10 @@ fn count_fields(info: &[u8]) -> usize
     ensures { result ≡ field_count info.now }
 {
     let mut n = 0;
-    let mut i = 0;
-    while i < info.len() {
-        if info[i] == CR {
+    for &c in info {
+        if c == CR {
             n += 1;
         }
-        i += 1;
     }
     n
 }
@@ -97,7 +75,7 @@ fn names_pager(field: &[u8], pagers: &[u32]) -> bool
     if !is_pager_id(field) {
         return false;
     }
-    is_listed(number(field), pagers)
+    pagers.contains(&number(field))
 }
 
 // A page: two fields, the first a pager ID, listed or not.
@@ -113,8 +91,7 @@ pub fn is_for(info: &[u8], pager: u32) -> bool
     ensures { result ≡ is_for pager info.now }
 {
     let end = find(info, 0, CR);
-    let only = [pager];
-    names_pager(&info[..end], &only)
+    names_pager(&info[..end], &[pager])
 }
 
 // A pager ID: 1 to 8 digits.
@@ -131,24 +108,8 @@ fn number(digits: &[u8]) -> u32
     ensures { result ≡ number_from 0 digits.now }
 {
     let mut n = 0;
-    let mut i = 0;
-    while i < digits.len() {
-        n = n * 10 + (digits[i] as u32 - 0x30);
-        i += 1;
+    for &c in digits {
+        n = n * 10 + u32::from(c - 0x30);
     }
     n
-}
-
-// The number is one of the list.
-fn is_listed(number: u32, pagers: &[u32]) -> bool
-    ensures { result ≡ listed number pagers.now }
-{
-    let mut i = 0;
-    while i < pagers.len() {
-        if number == pagers[i] {
-            return true;
-        }
-        i += 1;
-    }
-    false
 }

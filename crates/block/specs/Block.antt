@@ -1,14 +1,12 @@
 -- Blocks: what one is, as document 01 describes it, and what comes of writing and of reading one.
 use Rattle.std.specs.Prelude.{Bool, true, not, ◌&&◌, ◌||◌, List, [], ◌∷◌, ◌++◌, ◌≡◌, ℕ, ◌+◌, ◌-◌, ◌≤◌, leb, ltb, eqb, length, take, drop, get_or, if◌then◌else◌}
-use Rattle.line.specs.Answer.{Outcome, done, refused, map_done, output, refusal_number}
+use Rattle.line.specs.Answer.{Outcome, done, refused, map_done, output}
 use Rattle.line.specs.Character.{STX, ETX, ETB, US, CR, seven, textual}
 use Rattle.line.specs.Test.{all, same}
 use Rattle.line.specs.Transaction.{ends_in_cr}
 use Rattle.block.specs.Checksum.{checksum, check_characters}
 use Rattle.block.specs.declared.frame.Ending.{Ending}
 use Rattle.block.specs.declared.frame.Ending.TheVariants.{Etx, Etb, Us}
-use Rattle.block.specs.declared.frame.Reading.{Reading}
-use Rattle.block.specs.declared.frame.Reading.TheVariants.{Block, Refused}
 
 -- the character of an ending (R-2.2)
 abbrev pub ending_character : Ending → ℕ
@@ -77,6 +75,10 @@ ends c = eqb c ETX || eqb c ETB || eqb c US
 abbrev pub ending_of : ℕ → Ending
 ending_of c = if eqb c ETX then Etx else if eqb c ETB then Etb else Us
 
+-- a character as an ending: 4 where it is none (R-2.7)
+abbrev pub ending_in : ℕ → Outcome Ending
+ending_in c = if ends c then done (ending_of c) else refused 4
+
 -- a string of at least six characters is a frame, by a test (R-2.7)
 unfoldable pub framed : List ℕ → Bool
 framed s = eqb (get_or s 0 0) STX && ends (ending_at s) && all checking (check_in s) && eqb (get_or s (length s - 1) 0) CR
@@ -111,8 +113,3 @@ pub record Within (s : List ℕ) (string : ℕ × ℕ) (part : List ℕ) (place 
 pub record Handed (o : Outcome Segment) (string : ℕ × ℕ) (info : List ℕ) (place : ℕ × ℕ) : Type 0 where
   pub holds : info ≡ output (map_done (λ g. g.info) o)
   pub follows : (g : Segment) → o ≡ done g → place ≡ (string.0, string.1 + 1)
-
--- a reader's answer as document 01 gives it: 0 with the ending, or the refusal's number
-abbrev pub read_as : Reading → Outcome Ending
-read_as (Block e) = done e
-read_as (Refused r) = refused (refusal_number r)

@@ -16,10 +16,8 @@ pub fn checksum(text: &[u8]) -> u16
     ensures { result ≡ Checksum.checksum text.now }
 {
     let mut sum: u16 = 0;
-    let mut i = 0;
-    while i < text.len() {
-        sum = add(sum, text[i]);
-        i += 1;
+    for &c in text {
+        sum = add(sum, c);
     }
     sum
 }

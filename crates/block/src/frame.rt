@@ -1,17 +1,17 @@
 // One block: written from information and an ending, and read back.
-ghost use Rattle.std.specs.Prelude.{◌≡◌, ◌+◌, ◌≤◌, length};
-ghost use Rattle.line.specs.Answer.{Wrote, map_done, output, overlay};
+ghost use Rattle.std.specs.Prelude.{true, ◌≡◌, ◌+◌, ◌≤◌, length};
+ghost use Rattle.line.specs.Answer.{Wrote, map_done, outcome_of, output, overlay};
 ghost use Rattle.line.specs.Test.{all};
-ghost use Rattle.block.specs.Block.{Handed, Within, agrees, block_of, check_in, checking, ending_character, ending_of, ends, framed};
-ghost use Rattle.block.specs.Block.{read_as, read_block, right, summed, summing, write_block};
+ghost use Rattle.block.specs.Block.{Handed, Within, agrees, block_of, check_in, checking, ending_at, ending_character, ending_in, ends, framed};
+ghost use Rattle.block.specs.Block.{read_block, right, summed, summing, write_block};
 
 use crate::checksum::check_characters;
+use line::Refusal;
 use line::character::{CR, Class, ETB, ETX, STX, US, are};
 use line::transaction::ends_in_cr;
-use line::{Refusal, Written};
 
-// How a block ends.
-#[derive(Clone, Copy)]
+// How a block ends. `u8::from` gives its character.
+#[derive(Clone, Copy, Debug, PartialEq, Eq)]
 pub enum Ending {
     // The transaction ends here.
     Etx,
@@ -21,11 +21,32 @@ pub enum Ending {
     Us,
 }
 
-// What a string is as a block.
-#[derive(Clone, Copy)]
-pub enum Reading {
-    Block(Ending),
-    Refused(Refusal),
+impl From<Ending> for u8 {
+    ghost from_gives = { λ ending character. character ≡ ending_character ending };
+
+    fn from(ending: Ending) -> u8 {
+        match ending {
+            Ending::Etx => ETX,
+            Ending::Etb => ETB,
+            Ending::Us => US,
+        }
+    }
+}
+
+// A character as the ending that it is: `Frame` where it is none.
+impl TryFrom<u8> for Ending {
+    type Error = Refusal;
+
+    ghost try_from_gives = { λ character result. outcome_of result ≡ ending_in character };
+
+    fn try_from(character: u8) -> Result<Ending, Refusal> {
+        match character {
+            ETX => Ok(Ending::Etx),
+            ETB => Ok(Ending::Etb),
+            US => Ok(Ending::Us),
+            _ => Err(Refusal::Frame),
+        }
+    }
 }
 
 // The most characters of information in a block.
@@ -35,54 +56,55 @@ pub const INFORMATION: usize = 250;
 pub const OVERHEAD: usize = 6;
 
 // A block of the information with the ending.
-pub fn write(info: &[u8], ending: Ending, out: &mut [u8]) -> Written
+pub fn write(info: &[u8], ending: Ending, out: &mut [u8]) -> Result<usize, Refusal>
     ensures { Wrote
         (write_block info.now ending (length out.old))
         result out.old out.new }
 {
     let n = info.len();
     if out.len() < n + OVERHEAD {
-        return Written::Refused(Refusal::Size);
+        return Err(Refusal::Size);
     }
     if INFORMATION < n {
-        return Written::Refused(Refusal::Length);
+        return Err(Refusal::Length);
     }
     if is_right(info, ending) {
         put_block(info, ending, out);
-        return Written::Count(n + OVERHEAD);
+        return Ok(n + OVERHEAD);
     }
     if are(info, Class::SevenBit) {
-        return Written::Refused(Refusal::Information);
+        return Err(Refusal::Information);
     }
-    Written::Refused(Refusal::Parity)
+    Err(Refusal::Parity)
 }
 
 // The ending of the block that the string is, with its parity taken off. `Information` is a block
 // in a right frame whose information is wrong; the other refusals are no block at all.
-pub fn read(s: &[u8]) -> Reading
-    ensures { read_as result ≡ map_done (λ g. g.ending) (read_block s.now) }
+pub fn read(s: &[u8]) -> Result<Ending, Refusal>
+    ensures { outcome_of result ≡ map_done (λ g. g.ending) (read_block s.now) }
 {
     let n = s.len();
     if n < OVERHEAD {
-        return Reading::Refused(Refusal::Length);
+        return Err(Refusal::Length);
     }
     if INFORMATION + OVERHEAD < n {
-        return Reading::Refused(Refusal::Length);
+        return Err(Refusal::Length);
     }
     if !are(s, Class::SevenBit) {
-        return Reading::Refused(Refusal::Parity);
+        return Err(Refusal::Parity);
     }
+    let ending = Ending::try_from(s[n - 5])?;
     if !is_framed(s) {
-        return Reading::Refused(Refusal::Frame);
+        return Err(Refusal::Frame);
     }
     if !is_summed(s) {
-        return Reading::Refused(Refusal::Checksum);
+        return Err(Refusal::Checksum);
     }
-    let ending = ending_of(s[n - 5]);
-    if !is_right(&s[1..n - 5], ending) {
-        return Reading::Refused(Refusal::Information);
+    if is_right(&s[1..n - 5], ending) {
+        Ok(ending)
+    } else {
+        Err(Refusal::Information)
     }
-    Reading::Block(ending)
 }
 
 // The information of the block that the string is: the very part of it that follows STX. Nothing
@@ -90,7 +112,7 @@ pub fn read(s: &[u8]) -> Reading
 pub fn information(s: &[u8]) -> &[u8]
     ensures { Handed (read_block s.now) s.entry.ref_ptr result.now result.ref_ptr }
 {
-    let Reading::Block(_) = read(s) else {
+    let Ok(_) = read(s) else {
         return &s[..0];
     };
     inside(s)
@@ -116,7 +138,7 @@ fn put_block(info: &[u8], ending: Ending, out: &mut [u8])
     let n = info.len() + 2;
     put_summed(info, ending, out);
     let check = check_characters(&out[..n]);
-    line::memory::copy(&check, &mut out[n..]);
+    out[n..n + 3].copy_from_slice(&check);
     out[n + 3] = CR;
 }
 
@@ -127,8 +149,8 @@ fn put_summed(info: &[u8], ending: Ending, out: &mut [u8])
 {
     let n = info.len();
     out[0] = STX;
-    line::memory::copy(info, &mut out[1..]);
-    out[n + 1] = ending_character(ending);
+    out[1..n + 1].copy_from_slice(info);
+    out[n + 1] = u8::from(ending);
 }
 
 // The information's characters, and the rule of the ending.
@@ -150,12 +172,13 @@ fn is_agreed(info: &[u8], ending: Ending) -> bool
     }
 }
 
+// The frame of a string that has an ending in its place. This and the two below take the string whole, as the definitions do.
 fn is_framed(s: &[u8]) -> bool
-    requires { 6 ≤ length s.now }
+    requires { (6 ≤ length s.now) × (ends (ending_at s.now) ≡ true) }
     ensures { result ≡ framed s.now }
 {
     let n = s.len();
-    (s[0] == STX) & is_ending(s[n - 5]) & has_check(s) & (s[n - 1] == CR)
+    (s[0] == STX) & has_check(s) & (s[n - 1] == CR)
 }
 
 // The three characters before the last can carry a checksum.
@@ -177,36 +200,9 @@ fn is_summed(s: &[u8]) -> bool
     (s[n - 4] == check[0]) & ((s[n - 3] == check[1]) & (s[n - 2] == check[2]))
 }
 
-fn is_ending(c: u8) -> bool
-    ensures { result ≡ ends c }
-{
-    (c == ETX) | (c == ETB) | (c == US)
-}
-
+// Both ends are asked, as in every test of bytes.
 fn is_check(c: u8) -> bool
     ensures { result ≡ checking c }
 {
     (0x30 <= c) & (c <= 0x3F)
-}
-
-fn ending_of(c: u8) -> Ending
-    ensures { result ≡ ending_of c }
-{
-    if c == ETX {
-        return Ending::Etx;
-    }
-    if c == ETB {
-        return Ending::Etb;
-    }
-    Ending::Us
-}
-
-fn ending_character(ending: Ending) -> u8
-    ensures { result ≡ ending_character ending }
-{
-    match ending {
-        Ending::Etx => ETX,
-        Ending::Etb => ETB,
-        Ending::Us => US,
-    }
 }

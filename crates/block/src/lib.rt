@@ -4,4 +4,4 @@
 pub mod checksum;
 pub mod frame;
 
-pub use frame::{Ending, Reading};
+pub use frame::Ending;

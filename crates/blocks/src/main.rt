@@ -7,9 +7,9 @@ ghost use Rattle.line.specs.Answer.{Laid};
 ghost use Rattle.listing.specs.Listing.{listing};
 ghost use Rattle.blocks.specs.Lines.{Listed, Took, Within, finished, nothing, stand, stays};
 
-use line::Written;
+use line::answer::count;
 use line::character::LF;
-use line::memory::{copy, find};
+use line::memory::find;
 use listing::{ROOM, list};
 use std::io;
 use std::io::{Read, Write};
@@ -32,10 +32,10 @@ fn keep(part: &[u8], line: &mut [u8], kept: usize) -> usize
         (take (length line.old) (take kept line.old ++ part.now))
         result line.old line.new }
 {
-    let room = line.len() - kept;
-    let end = if part.len() < room { part.len() } else { room };
-    copy(&part[..end], &mut line[kept..]);
-    kept + end
+    let more = (line.len() - kept).min(part.len());
+    let end = kept + more;
+    line[kept..end].copy_from_slice(&part[..more]);
+    end
 }
 
 // Prints what a line prints, behind what waits; writes that out first where there is no room. Where
@@ -52,10 +52,7 @@ fn print<W: Write>(to: &mut W, line: &[u8], out: &mut [u8], waiting: usize) -> i
         to.write_all(&out[..at])?;
         at = 0;
     }
-    match list(line, &mut out[at..]) {
-        Written::Count(n) => Ok(at + n),
-        Written::Refused(_) => Ok(at),
-    }
+    Ok(at + count(list(line, &mut out[at..])))
 }
 
 // One piece of the input: each line that ends in it is printed, and the start of the next is kept.
@@ -76,6 +73,7 @@ fn take<W: Write>(
     let mut kept = filled.kept;
     let mut waiting = filled.waiting;
     let mut at = 0;
+    // From line to line and not byte by byte: no `for`.
     while at < piece.len() {
         let end = find(piece, at, LF);
         kept = keep(&piece[at..end], line, kept);
@@ -91,7 +89,7 @@ fn take<W: Write>(
 
 // Takes the input piece by piece, to its end. What is left is as if it were one text, which this
 // contract does not name. A proved loop has to end, and nothing says that the input does, so the loop
-// counts its turns down from a number that no run uses up.
+// has as many turns as no run uses up.
 fn take_all<R: Read, W: Write>(
     from: &mut R,
     to: &mut W,
@@ -109,14 +107,12 @@ fn take_all<R: Read, W: Write>(
         kept: 0,
         waiting: 0,
     };
-    let mut turns = u64::MAX;
-    while turns > 0 {
+    for _ in 0..u64::MAX {
         let n = from.read(piece)?;
         if n == 0 {
             break;
         }
         filled = take(to, &piece[..n], line, out, filled)?;
-        turns -= 1;
     }
     Ok(filled)
 }

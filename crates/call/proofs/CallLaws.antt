@@ -1,4 +1,5 @@
 -- A call: the ends that a run begins with, what the tests make of a call, and what it owes where it is refused and where it is done.
+use Rattle.std.specs.Prelude.{Ok, Err}
 use mathlib.Core.Bool.{false≢true}
 use mathlib.Core.List.{List, map}
 use mathlib.Core.Path.{◌≡◌, refl, sym, subst, ap, ◌∙◌}
@@ -7,7 +8,7 @@ use borrow.Author.Tests.{eq-eqb, ne_eqb}
 use lib.ListN.{length, take, replicate, length-map}
 use Rattle.line.proofs.OutcomeLaws.{map-refused}
 use Rattle.line.proofs.OverlayLaws.{overlay-none, overlay-start, overlay-whole}
-use Rattle.line.specs.Answer.{Outcome, done, refused, count_of, output, refusal_number, written_as}
+use Rattle.line.specs.Answer.{Outcome, done, refused, count_of, output, outcome_of, refusal_number}
 use Rattle.line.specs.declared.answer.Refusal.{Refusal}
 use Rattle.journal.proofs.EncodingLaws.{decode-legal}
 use Rattle.journal.specs.Storage.{decode_in, stored_in}
@@ -31,7 +32,6 @@ use Rattle.demand.specs.Run.{Inputs, start, final}
 use Rattle.call.specs.Call.{Transactions, Setup, Played, Runs, called, played, tested}
 use Rattle.call.specs.Driver.{Sound, Kept, Holds, inputs_from, job_of, opening, starting}
 use Rattle.call.specs.Inner.{Begins, Plays, Ready, inputs_in, kept_in}
-use Rattle.call.specs.declared.run.Ran.TheVariants.{Done, Refused}
 use Rattle.call.specs.declared.run.Totals.{Totals}
 use Rattle.call.proofs.DriverLaws.{sound-ranged, started-done, starts}
 use Rattle.call.proofs.ExchangeLaws.{count-told, told-inside}
@@ -52,7 +52,7 @@ module _ {s : Setup} (sound : Sound s) where
 -- the ends stand as a run starts
 pub begins : {s : Setup} {buffer : List ℕ} {n : ℕ} {verdicts verdicts' : List ℕ} → Ready s buffer n verdicts →
     {r : DeviceStepped.Stepped} {central : Control} {pending memory memory' : List ℕ} (count : ℕ) →
-    DeviceStep.Steps (done (opening s)) Stopped r memory memory' → count ≡ count_of (written_as r.outcome) → central ≡ start_in n →
+    DeviceStep.Steps (done (opening s)) Stopped r memory memory' → count ≡ count_of (outcome_of r.outcome) → central ≡ start_in n →
     verdicts' ≡ map verdict_number (replicate (length verdicts) Unsent) → length pending ≡ 2000 → length memory' ≡ 256 →
     Begins s (record { device = r.state; central = central; count = count; standing = Open }) buffer pending memory' verdicts'
 begins {s} {buffer} {n} {verdicts} {verdicts'} ready {r} {central} {pending} {memory} {memory'} count steps told e numbers sized wide =
@@ -104,7 +104,7 @@ module _ (s : Setup) (buffer : List ℕ) (n : ℕ) (faults : List ℕ) where
 -- ── What a call owes ──
 
 -- a refusal leaves all memory
-pub runs-refused : {o : Outcome Played} (q : Refusal) {buffer verdicts : List ℕ} → o ≡ refused (refusal_number q) → Runs o (Refused q) buffer buffer verdicts verdicts
+pub runs-refused : {o : Outcome Played} (q : Refusal) {buffer verdicts : List ℕ} → o ≡ refused (refusal_number q) → Runs o (Err q) buffer buffer verdicts verdicts
 unfolding stored_in
 runs-refused {o} q {buffer} {verdicts} e =
     let none : (p : Played) → o ≡ done p → ⊥ = λ p h. false≢true (cc (e, h)) in
@@ -113,7 +113,7 @@ runs-refused {o} q {buffer} {verdicts} e =
 -- a run that is done
 pub runs_done : {o : Outcome Played} (faults : List ℕ) {i : Inputs Transactions} {t : Totals} {buffer buffer' verdicts verdicts' : List ℕ} →
     o ≡ done (played faults i) → Plays i (final i (faulted i faults)) t buffer buffer' verdicts' → Legal i → length verdicts ≡ length i.job →
-    Runs o (Done t) buffer buffer' verdicts verdicts'
+    Runs o (Ok t) buffer buffer' verdicts verdicts'
 runs_done {o} faults {i} {verdicts = verdicts} e plays legal h =
     let proved = demand3 i legal in
     let fair = proved.faults_fair faults in

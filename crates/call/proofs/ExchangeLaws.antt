@@ -7,7 +7,7 @@ use native.Mathlib.Omega.{arith}
 use lib.ListN.{length, take, length-append}
 use lib.Seq.{length-take-le}
 use Rattle.line.proofs.OverlayLaws.{overlay-start}
-use Rattle.line.specs.Answer.{Outcome, done, count_of, overlay, written_as}
+use Rattle.line.specs.Answer.{Outcome, done, count_of, outcome_of, overlay}
 use Rattle.line.specs.Character.{byte}
 use Rattle.line.specs.Test.{all}
 use Rattle.journal.specs.Storage.{stored_in}
@@ -102,7 +102,7 @@ module _ {s : Setup} {saved : Saved} {buffer pending memory verdicts : List ℕ}
         subst (λ o. CentralStep.Steps o (state_of saved.central pending) (whole_of reacted pending') buffer buffer' out out') central-made hears
 
     -- its answer has been counted
-    module _ (n : ℕ) (answers : n ≡ count_of (written_as reacted.outcome)) where
+    module _ (n : ℕ) (answers : n ≡ count_of (outcome_of reacted.outcome)) where
       -- it lies at the start of the output
       pub answer-inside : n ≤ length out'
       answer-inside = told-inside (answer_bytes reaction.answer) out n (count-told answers central-steps.answers) central-steps.leaves
@@ -124,7 +124,7 @@ module _ {s : Setup} {saved : Saved} {buffer pending memory verdicts : List ℕ}
         device-steps = subst (λ o. DeviceStep.Steps o saved.device.step moved before memory') device-made reads
 
         -- both steps made the exchange
-        pub exchanged : {verdicts' : List ℕ} (next : ℕ) → next ≡ count_of (written_as moved.outcome) → verdicts' ≡ map verdict_number (noted moved.given u.ends.verdicts) →
+        pub exchanged : {verdicts' : List ℕ} (next : ℕ) → next ≡ count_of (outcome_of moved.outcome) → verdicts' ≡ map verdict_number (noted moved.given u.ends.verdicts) →
             length pending' ≡ length pending → length memory' ≡ length before → all byte buffer ≡ true →
             Exchanged s i fault u.ends (record { device = moved.state; central = reacted.control; count = next; standing = moved.standing }) buffer buffer' pending' memory' verdicts'
         unfolding exchange

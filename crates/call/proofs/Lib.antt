@@ -1,6 +1,6 @@
-mod ArriveLaws
 mod TestedLaws
 pub mod DriverLaws
 mod ExchangeLaws
 mod LoopLaws
 mod CallLaws
+pub mod NamedLaws

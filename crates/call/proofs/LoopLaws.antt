@@ -1,6 +1,6 @@
 -- The run's loop: what holds between two transmissions, that each keeps it, and that it has come to the end once the device puts out no string.
 use mathlib.Core.Bool.{Bool, true, false≢true, and-eq-true_iff}
-use mathlib.Core.List.{List, [], ◌∷◌, ◌++◌, map, tail}
+use mathlib.Core.List.{List, [], ◌∷◌, ◌++◌, map, reverse, tail}
 use mathlib.Core.Logic.{◌⊎◌, inl, inr}
 use mathlib.Core.Path.{◌≡◌, refl, sym, ap, ◌∙◌}
 use Prim.Native.Nat.{ℕ, zero, suc, ◌+◌, ◌*◌, ◌≤◌, ◌<◌}
@@ -9,9 +9,10 @@ use native.Mathlib.Numerals.{add-one}
 use native.Mathlib.Omega.{arith}
 use lib.Dec.{eqb, ltb}
 use lib.ListN.{length, drop, get_or, replicate, length-map}
+use Rattle.std.proofs.lemmas.List.{length-reverse}
 use lib.Seq.{get_or-drop, length-take-le}
-use Rattle.line.proofs.OutcomeLaws.{choice}
-use Rattle.line.specs.Answer.{done, overlay}
+use Rattle.line.proofs.OutcomeLaws.{choice, map-done}
+use Rattle.line.specs.Answer.{done}
 use Rattle.line.specs.Character.{byte}
 use Rattle.line.specs.Parity.{with_parity}
 use Rattle.line.specs.Test.{all}
@@ -19,10 +20,11 @@ use Rattle.line.specs.Transaction.{legal}
 use Rattle.block.specs.Block.{Segment}
 use Rattle.block.specs.Segments.{continues, segment_block}
 use Rattle.block.proofs.FrameLaws.{block-length}
-use Rattle.journal.proofs.EncodingLaws.{decode-legal, encode-decode}
+use Rattle.journal.proofs.EncodingLaws.{decode-legal, newest_parts}
 use Rattle.journal.proofs.StorageLaws.{put-size, read-size, stored-own, stored-over}
 use Rattle.journal.specs.Encoding.{all_legal}
 use Rattle.journal.specs.Storage.{size_of, stored_in}
+use Rattle.journal.specs.Walk.{newest_first, decode}
 use Rattle.central.proofs.HearingLaws.{heard-right}
 use Rattle.central.proofs.ReactionLaws.{every}
 use Rattle.central.specs.Hearing.{heard}
@@ -111,12 +113,19 @@ blocks-few settings (t ∷ ts) h =
     let (l, rest) = (and-eq-true_iff (legal t) (all_legal ts)).0 h in
     omega (arith, blocks-few settings ts rest, segments_few settings t l)
 
+-- a job that is read has at most 64 transactions
+job-few : (b : List ℕ) (ts : Transactions) → decode b ≡ done ts → length ts ≤ 64
+job-few b ts h =
+    let (rs, newest, e) = map-done reverse (newest_first b) ts h in
+    let (_, _, few, _, _) = newest_parts b rs newest in
+    rw (← e, length-reverse) few
+
 -- so a run takes few transmissions
-pub sound-few : {s : Setup} (first : Transactions) → Sound s → all byte s.job ≡ true → most_transmissions (inputs_from s first) ≤ 10000
-sound-few {s} first sound bytes =
+pub sound-few : {s : Setup} (first : Transactions) → Sound s → most_transmissions (inputs_from s first) ≤ 10000
+sound-few {s} first sound =
     let limit = (settings_parts s.device (sound-ranged sound).0).1 in
-    let job = (encode-decode s.job (job_of s) bytes sound.read).1 in
-    omega (arith, mul-le-mul_left (s.device.retries + 1) (few (blocks-few s.device (job_of s) job.each) job.few))
+    let each = decode-legal s.job (job_of s) sound.read in
+    omega (arith, mul-le-mul_left (s.device.retries + 1) (few (blocks-few s.device (job_of s) each) (job-few s.job (job_of s) sound.read)))
   where
     few : {b n : ℕ} → b ≤ 15 * n → n ≤ 64 → b + 2 ≤ 962
     few p q = omega arith
@@ -247,7 +256,6 @@ module _ (s : Setup) (first : Transactions) where
 -- ── No verdicts yet ──
 
 -- a verdict buffer filled with the number of unsent
-pub unsent_laid : (xs : List ℕ) → overlay (map (λ x. verdict_number Unsent) xs) xs ≡ map verdict_number (replicate (length xs) Unsent)
-unfolding overlay
-unsent_laid [] = refl
-unsent_laid (x ∷ xs) = ap (λ l. verdict_number Unsent ∷ l) (unsent_laid xs)
+pub unsent-filled : (n : ℕ) → replicate n (verdict_number Unsent) ≡ map verdict_number (replicate n Unsent)
+unsent-filled zero = refl
+unsent-filled (suc n) = ap (λ l. verdict_number Unsent ∷ l) (unsent-filled n)

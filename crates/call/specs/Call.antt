@@ -1,6 +1,7 @@
 -- What a call of `run` comes to: the refusals in document 01's order, and the run at the faults read as damage.
-use Rattle.std.specs.Prelude.{Bool, not, ◌&&◌, List, map, ◌≡◌, ℕ, ltb, eqb, length, if◌then◌else◌}
-use Rattle.line.specs.Answer.{Outcome, done, refused, refusal_number, map_done, and_then, output, overlay}
+use Rattle.std.specs.Prelude.{Bool, not, ◌&&◌, List, map, ◌≡◌, ℕ, Result, ltb, eqb, length, if◌then◌else◌}
+use Rattle.line.specs.Answer.{Outcome, done, refused, outcome_of, map_done, and_then, output, overlay}
+use Rattle.line.specs.declared.answer.Refusal.{Refusal}
 use Rattle.line.specs.Test.{all}
 use Rattle.journal.specs.Storage.{decode_in, is_buffer, size_of, stored_in}
 use Rattle.journal.specs.Walk.{decode}
@@ -12,9 +13,7 @@ use Rattle.device.specs.declared.state.Settings as DeviceSettings
 use Rattle.demand.specs.Demand.{Fair, Demand3}
 use Rattle.demand.specs.Faults.{faulted}
 use Rattle.demand.specs.Final.{Finals, final_verdicts}
-use Rattle.demand.specs.Run.{Inputs, Damages, Outcome as Result, run}
-use Rattle.call.specs.declared.run.Ran.{Ran}
-use Rattle.call.specs.declared.run.Ran.TheVariants.{Done, Refused}
+use Rattle.demand.specs.Run.{Inputs, Damages, Outcome as RunOutcome, run}
 use Rattle.call.specs.declared.run.Totals.{Totals}
 
 -- ── What a call takes ──
@@ -78,7 +77,7 @@ called s buffer n faults room =
     if not (eqb room (length i.job)) then refused 1 else done (played faults i))
 
 -- what a run comes to
-abbrev pub result_of : Played → Result Transactions
+abbrev pub result_of : Played → RunOutcome Transactions
 result_of p = run p.inputs p.damages
 
 -- its totals (R-10.9)
@@ -89,15 +88,10 @@ totals_of p = record { transmissions = (result_of p).transmissions; journal = si
 abbrev pub numbers_of : Played → List ℕ
 numbers_of p = map verdict_number (final_verdicts p.inputs p.damages)
 
--- an answer as document 01 gives it: 0 with the totals, or the refusal's number
-abbrev pub ran_as : Ran → Outcome Totals
-ran_as (Done t) = done t
-ran_as (Refused r) = refused (refusal_number r)
-
 -- what a call owes (R-10.9)
-pub record Runs (o : Outcome Played) (r : Ran) (buffer buffer' verdicts verdicts' : List ℕ) : Type 0 where
+pub record Runs (o : Outcome Played) (r : Result Totals Refusal) (buffer buffer' verdicts verdicts' : List ℕ) : Type 0 where
   -- the totals of the run, or the refusal
-  pub answers : ran_as r ≡ map_done totals_of o
+  pub answers : outcome_of r ≡ map_done totals_of o
   -- the journal in its buffer; a refusal leaves it
   pub stored : buffer' ≡ stored_in (map_done (λ p. (result_of p).journal) o) buffer
   -- the verdicts in theirs; a refusal leaves it

@@ -9,12 +9,27 @@ use Rattle.device.specs.declared.state.Report.TheVariants as Reporting
 use Rattle.demand.specs.Faults.{damage, damages, faulted}
 use Rattle.demand.specs.Final.{settled_in}
 use Rattle.demand.specs.Run.{hit, Inputs, Ends, start, exchange, final}
-use Rattle.call.specs.Call.{Transactions, Setup}
+use Rattle.call.specs.Call.{Transactions, Setup, setup}
 use Rattle.call.specs.Driver.{job_of, inputs_from, Sound, Kept, Holds}
 use Rattle.call.specs.declared.exchange.Saved.{Saved}
+use Rattle.call.specs.declared.fault.Part.{Part}
+use Rattle.call.specs.declared.fault.Part.TheVariants.{Whole, Garbled, Lost}
+use Rattle.call.specs.declared.setup.Setup as Lent
 use Rattle.call.specs.declared.run.Totals.{Totals}
 
+-- ── What is lent ──
+
+-- the setup that is lent: its bytes and its pager list
+abbrev pub setup_of : Lent.Setup → Setup
+setup_of s = setup s.device s.central s.pagers.now s.job.now
+
 -- ── A string on the line ──
+
+-- the number of a part of a fault (R-10.6)
+abbrev pub part_number : Part → ℕ
+part_number Whole = 0
+part_number Garbled = 1
+part_number Lost = 2
 
 -- what arrives of a string, by its part of a fault: 0 whole, 1 garbled, 2 lost
 abbrev pub arrives : ℕ → List ℕ → List ℕ

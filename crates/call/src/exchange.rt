@@ -1,18 +1,17 @@
 // One transmission: a string of the device over the line, and the central's answer.
-ghost use Rattle.std.specs.Prelude.{List, map, ◌≡◌, ◌≤◌, length, take};
+ghost use Rattle.std.specs.Prelude.{List, map, ◌≡◌, length};
 ghost use Rattle.central.specs.Lent.{state_of, stepped_in, whole_of};
 ghost use Rattle.central.specs.Step as CentralStep;
 ghost use Rattle.device.specs.Reaction.{verdict_number};
 ghost use Rattle.device.specs.Step as DeviceStep;
 ghost use Rattle.device.specs.declared.state.Verdict as Verdicts;
 ghost use Rattle.demand.specs.Run.{noted};
-ghost use Rattle.call.specs.Call.{setup};
-ghost use Rattle.call.specs.Inner.{Exchanges, Underway, arrives};
+ghost use Rattle.call.specs.Inner.{Exchanges, Underway, arrives, part_number, setup_of};
 
-use crate::fault::arrive;
+use crate::fault::{Part, arrive};
+use crate::setup::Setup;
 use central::lent::step as step_central;
 use central::step::ANSWER;
-use device::state::verdict_number;
 use device::step::step as step_device;
 use device::{Given, Standing};
 use line::answer::count;
@@ -28,22 +27,19 @@ pub struct Saved {
 }
 
 // The string at the start of the memory is sent, and answered: both ends behind it. The fault is 3
-// times the string's part plus the answer's. Neither end refuses its step.
+// times the string's part plus the answer's, a number as `run` is given it. Neither end refuses its step.
 pub(crate) fn exchange(
+    setup: Setup<'_>,
     ends: Saved,
     fault: u8,
-    job: &[u8],
-    device: device::Settings,
-    central: central::Settings,
-    pagers: &[u32],
     journal: &mut [u8],
     pending: &mut [u8],
     memory: &mut [u8],
     verdicts: &mut [u8],
 ) -> Saved
-    requires { Underway (setup device central pagers.now job.now) ends
+    requires { Underway (setup_of setup) ends
         journal.old pending.old memory.old verdicts.old }
-    ensures { Exchanges (setup device central pagers.now job.now) fault ends result
+    ensures { Exchanges (setup_of setup.entry) fault ends result
         journal.old journal.new
         pending.old pending.new
         memory.old memory.new
@@ -51,106 +47,86 @@ pub(crate) fn exchange(
 {
     let mut answer = [0u8; ANSWER];
     let reacted = hear(
+        setup,
         ends.central,
-        central,
-        pagers,
         journal,
         pending,
-        fault / 3,
-        ends.count,
-        memory,
+        Part::from(fault / 3),
+        &mut memory[..ends.count],
         &mut answer,
     );
-    let answered = reacted.outcome;
-    let state = ends.device;
     let moved = read(
-        state,
-        device,
-        job,
-        fault % 3,
-        count(answered),
-        &mut answer,
+        setup,
+        ends.device,
+        Part::from(fault % 3),
+        &mut answer[..count(reacted.outcome)],
         memory,
     );
-    let given = moved.given;
-    note(given, verdicts);
-    let device = moved.state;
-    let central = reacted.control;
-    let put = moved.outcome;
-    let standing = moved.standing;
+    note(moved.given, verdicts);
     Saved {
-        device,
-        central,
-        count: count(put),
-        standing,
+        device: moved.state,
+        central: reacted.control,
+        count: count(moved.outcome),
+        standing: moved.standing,
     }
 }
 
-// The central's step over what arrives of the string of this length at the start of the memory.
+// The central's step over what arrives of the string.
 fn hear(
+    setup: Setup<'_>,
     control: central::Control,
-    settings: central::Settings,
-    pagers: &[u32],
     journal: &mut [u8],
     pending: &mut [u8],
-    part: u8,
-    count: usize,
-    memory: &mut [u8],
+    part: Part,
+    string: &mut [u8],
     answer: &mut [u8],
 ) -> central::Moved
-    requires { count ≤ length memory.old }
     ensures { CentralStep.Steps
-        (stepped_in control pending.old settings pagers.now journal.old
-        (arrives part (take count memory.old)) (length answer.old))
+        (stepped_in control pending.old setup.entry.central setup.entry.pagers.now journal.old
+        (arrives (part_number part) string.old) (length answer.old))
         (state_of control pending.old) (whole_of result pending.new)
         journal.old journal.new
         answer.old answer.new }
 {
-    let heard = arrive(part, count, memory);
+    let heard = arrive(part, string);
     step_central(
         control,
-        settings,
-        pagers,
+        setup.central,
+        setup.pagers,
         journal,
         pending,
-        &memory[..heard],
+        &string[..heard],
         answer,
     )
 }
 
-// The device's step over what arrives of the answer of this length: it puts its next string in the
-// memory.
+// The device's step over what arrives of the answer: it puts its next string in the memory.
 fn read(
+    setup: Setup<'_>,
     state: device::State,
-    settings: device::Settings,
-    job: &[u8],
-    part: u8,
-    count: usize,
+    part: Part,
     answer: &mut [u8],
     memory: &mut [u8],
 ) -> device::Stepped
-    requires { count ≤ length answer.old }
     ensures { DeviceStep.Steps
-        (DeviceStep.stepped state settings job.now
-        (arrives part (take count answer.old)) (length memory.old))
+        (DeviceStep.stepped state setup.entry.device setup.entry.job.now
+        (arrives (part_number part) answer.old) (length memory.old))
         state.step result
         memory.old memory.new }
 {
-    let heard = arrive(part, count, answer);
-    step_device(state, settings, job, &answer[..heard], memory)
+    let heard = arrive(part, answer);
+    step_device(state, setup.device, setup.job, &answer[..heard], memory)
 }
 
-// A verdict that is given is put in its place, as its number.
-fn note(given: Given, verdicts: &mut [u8])
+// A verdict that is given is put in its place, as its number. `vectors` has its own, to compare with.
+fn note(given: Option<Given>, verdicts: &mut [u8])
     ensures { (vs : List Verdicts.Verdict) →
         verdicts.old ≡ map verdict_number vs → verdicts.new ≡ map verdict_number (noted given vs) }
 {
-    match given {
-        Given::Verdict(transaction, verdict) => {
-            if transaction < verdicts.len() {
-                verdicts[transaction] = verdict_number(verdict);
-            }
-        }
-        Given::Nothing => {}
+    let Some(given) = given else {
+        return;
+    };
+    if given.transaction < verdicts.len() {
+        verdicts[given.transaction] = u8::from(given.verdict);
     }
 }

@@ -5,5 +5,6 @@ mod exchange;
 mod fault;
 mod range;
 pub mod run;
+mod setup;
 
-pub use run::{Ran, Totals};
+pub use run::Totals;

@@ -1,7 +1,7 @@
 -- What settings and a saved state that are in range say of their numbers.
-use mathlib.Core.Bool.{Bool, true, false, ◌&&◌, and-eq-true_iff}
+use mathlib.Core.Bool.{true, ◌&&◌, and-eq-true_iff}
 use mathlib.Core.List.{List}
-use mathlib.Core.Path.{◌≡◌, refl}
+use mathlib.Core.Path.{◌≡◌}
 use Prim.Native.Nat.{ℕ, ◌≤◌}
 use native.Mathlib.Omega.{arith}
 use borrow.Author.Tests.{leb-true, eqb-true}
@@ -17,11 +17,6 @@ use Rattle.central.specs.declared.state.Settings.{Settings}
 use Rattle.central.specs.declared.state.Stage.{Stage}
 use Rattle.central.specs.declared.state.Stage.TheVariants.{Idle, Logon, Block, Closed}
 use Rattle.central.specs.declared.state.Control.{Control}
-
--- a test that holds may stand between two others
-pub and-out : (a b c : Bool) → b ≡ true → (a && c) ≡ (a && b && c)
-and-out true b c e = rw e
-and-out false b c e = refl
 
 -- a row of failures in range is at most C
 failures_most : (stage : Stage) (most n : ℕ) → failures_in_range stage most n ≡ true → n ≤ most

@@ -1,30 +1,25 @@
 -- What the central does, by the functions inside a step: where nothing is stored, where the transaction goes on, and where it is whole.
-use Rattle.std.specs.Prelude.{if◌then◌else◌}
+use Rattle.std.specs.Prelude.{Result, Ok, Err, Option, Some, None, if◌then◌else◌}
 use mathlib.Core.Bool.{Bool, true, false}
-use mathlib.Core.List.{List, [], ◌∷◌, ◌++◌}
-use mathlib.Core.Logic.{inl, inr}
-use mathlib.Core.Option.{Option, some, none}
-use mathlib.Core.Path.{◌≡◌, refl, sym, ◌∙◌}
+use mathlib.Core.List.{List, [], ◌++◌}
+use mathlib.Core.Logic.{◌⊎◌, inl, inr}
+use mathlib.Core.Path.{◌≡◌, refl, sym, ap, ◌∙◌}
 use Prim.Native.Nat.{ℕ, ◌+◌, ◌<◌, ◌≤◌}
 use native.Mathlib.Omega.{arith}
 use borrow.Author.Tests.{le-ltb, lt-ltb}
-use denote.Enum.Declared.{tag_of}
 use lib.ListN.{length, length-append}
 use lib.Seq.{length-take-le}
 use Rattle.line.proofs.OverlayLaws.{overlay-none, overlay-own}
-use Rattle.line.specs.Answer.{done}
+use Rattle.line.specs.Answer.{done, outcome_of}
 use Rattle.line.specs.Character.{byte}
 use Rattle.line.specs.Test.{all}
 use Rattle.line.specs.Transaction.{legal}
+use Rattle.line.specs.declared.answer.Refusal.{Refusal}
 use Rattle.journal.proofs.StorageLaws.{read-size, stored-own}
 use Rattle.journal.specs.Storage.{transactions, size_of, stored_in}
-use types.Run.{OneOf}
 use Rattle.admission.proofs.AdmissionLaws.{admit_stores}
-use Rattle.admission.specs.contracts.Admitted.{the_type}
-use Rattle.admission.specs.Admission.{Admits, admit_to, admitted_as}
+use Rattle.admission.specs.Admission.{Admits, admit_to}
 use Rattle.admission.specs.Content.{admits}
-use Rattle.admission.specs.declared.Admitted.{Admitted}
-use Rattle.admission.specs.declared.Admitted.TheVariants.{Stored, Rejected, Refused}
 use Rattle.central.specs.Inner.{Continues, Does, Readable, Shows, Stores, answer_of, central_at, concludes_in, pending_in, takes_in, transactions_in}
 use Rattle.central.specs.Reaction.{Answer, ack, rs, Central, Reaction, at}
 use Rattle.central.specs.declared.answer.Answer as Code
@@ -34,18 +29,16 @@ use Rattle.central.specs.declared.state.Settings.{Settings}
 use Rattle.central.specs.declared.state.Stage.{Stage}
 use Rattle.central.specs.declared.state.Stage.TheVariants.{Block}
 
--- what is not stored has one of the other tags
-pub other-tag : (a : Admitted) → ((n : ℕ) → a ≡ Stored n → ⊥) → OneOf (1 ∷ 2 ∷ []) (tag_of the_type a)
-other-tag (Stored n) h = absurd (h n refl)
-other-tag Rejected h = inl refl
-other-tag (Refused r) h = inr refl
+-- what is not stored is rejected or refused
+pub other-tag : (a : Result (Option ℕ) Refusal) → ((n : ℕ) → a ≡ Ok (Some n) → ⊥) → (a ≡ Ok None) ⊎ ((r : Refusal) × (a ≡ Err r))
+other-tag (Ok (Some n)) h = absurd (h n refl)
+other-tag (Ok None) h = inl refl
+other-tag (Err r) h = inr (r, refl)
 
--- an answer of admission that is done and not `Stored` is `Rejected`
-pub not-stored : (a : Admitted) (o : Option ℕ) → OneOf (1 ∷ 2 ∷ []) (tag_of the_type a) → admitted_as a ≡ done o → admitted_as a ≡ done none
-not-stored (Stored n) o (inl h) e = absurd (omega arith)
-not-stored (Stored n) o (inr h) e = absurd (omega arith)
-not-stored Rejected o h e = refl
-not-stored (Refused r) o h e = cc
+-- an answer of admission that is done and not stored is rejected
+pub not-stored : (a : Result (Option ℕ) Refusal) (o : Option ℕ) → (a ≡ Ok None) ⊎ ((r : Refusal) × (a ≡ Err r)) → outcome_of a ≡ done o → outcome_of a ≡ done None
+not-stored a o (inl e) h = rw e refl
+not-stored a o (inr (r, e)) h = let z : ◌≡◌ {A = ℕ} 0 1 = cc (h, ap outcome_of e) in absurd (omega arith)
 
 -- ── Nothing is stored ──
 
@@ -111,26 +104,21 @@ module _ (k : Control) (buffer : List ℕ) (bytes : all byte buffer ≡ true) (r
         stored = sym (stored-own buffer k.journal held bytes read);
       }
 
-  -- with the last block the whole transaction decides
-  pub takes-last : (settings : Settings) (pagers array t : List ℕ) {r : Reacted} {buffer' : List ℕ} → length t ≤ settings.longest →
-      Stores (concludes_in settings pagers k array buffer t) r array array buffer buffer' → Stores (takes_in settings pagers k array buffer t false) r array array buffer buffer'
-  takes-last settings pagers array t short d = rw (le-ltb settings.longest (length t) short) d
-
   -- ── A whole transaction ──
 
-  module _ (settings : Settings) (pagers t : List ℕ) (good : legal t ≡ true) {a : Admitted} {buffer' : List ℕ}
+  module _ (settings : Settings) (pagers t : List ℕ) (good : legal t ≡ true) {a : Result (Option ℕ) Refusal} {buffer' : List ℕ}
       (w : Admits (admit_to settings.longest pagers buffer k.journal t) a buffer buffer') where
     -- what admission asks
     abbrev fits : Bool
     fits = admits settings.longest pagers transactions held t
 
     -- and what it leaves
-    admitted : (admitted_as a ≡ done (if fits then some (size_of (transactions.put held t)) else none)) ×
+    admitted : (outcome_of a ≡ done (if fits then Some (size_of (transactions.put held t)) else None)) ×
         (buffer' ≡ stored_in (done (if fits then transactions.put held t else held)) buffer)
     admitted = admit_stores settings.longest pagers buffer k.journal t held bytes read good w
 
     -- it is admitted, and stored
-    pub concludes-stored : (array : List ℕ) (u : Control) {r : Reacted} → admitted_as a ≡ done (some u.journal) → u.length ≤ length array →
+    pub concludes-stored : (array : List ℕ) (u : Control) {r : Reacted} → outcome_of a ≡ done (Some u.journal) → u.length ≤ length array →
         Does (λ c. record { next = at Block [] c.journal; answer = ack }) u r → Stores (concludes_in settings pagers k array buffer t) r array array buffer buffer'
     concludes-stored array u {r} e h does = go fits refl
       where
@@ -142,12 +130,12 @@ module _ (k : Control) (buffer : List ℕ) (bytes : all byte buffer ≡ true) (r
         go false f = let z : ◌≡◌ {A = ℕ} 0 1 = cc (e, rw f at admitted.0) in absurd (omega arith)
 
     -- it is not
-    pub concludes-dropped : (array : List ℕ) {r : Reacted} → OneOf (1 ∷ 2 ∷ []) (tag_of the_type a) → k.length ≤ length array →
+    pub concludes-dropped : (array : List ℕ) {r : Reacted} → ((n : ℕ) → a ≡ Ok (Some n) → ⊥) → k.length ≤ length array →
         Does (λ c. record { next = at Block [] c.journal; answer = rs }) k r → Stores (concludes_in settings pagers k array buffer t) r array array buffer buffer'
     concludes-dropped array {r} e h does = go fits refl
       where
         go : (b : Bool) → fits ≡ b → Stores (concludes_in settings pagers k array buffer t) r array array buffer buffer'
-        go true f = let z : ◌≡◌ {A = ℕ} 0 1 = cc (not-stored a _ e admitted.0, rw f at admitted.0) in absurd (omega arith)
+        go true f = let z : ◌≡◌ {A = ℕ} 0 1 = cc (not-stored a _ (other-tag a e) admitted.0, rw f at admitted.0) in absurd (omega arith)
         go false f =
             let d = does_stores (λ c. record { next = at Block [] c.journal; answer = rs }) array h does in
             rw f record { answers = d.answers; control = d.control; pending = d.pending; stored = rw f at admitted.1 }

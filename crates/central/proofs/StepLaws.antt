@@ -8,8 +8,9 @@ use lib.Dec.{ltb}
 use lib.ListN.{length}
 use Rattle.line.proofs.OutcomeLaws.{map-done, passed}
 use Rattle.line.proofs.OverlayLaws.{overlay-none}
-use Rattle.line.specs.Answer.{Outcome, done, refused, map_done, written_as, Wrote}
-use Rattle.line.specs.declared.answer.Written.{Written}
+use Rattle.line.specs.Answer.{Outcome, done, refused, map_done, outcome_of, Wrote}
+use Rattle.line.specs.declared.answer.Refusal.{Refusal}
+use Rattle.std.specs.Prelude.{Result}
 use Rattle.journal.specs.Storage.{decode_in, stored_in}
 use Rattle.central.specs.Hearing.{heard}
 use Rattle.central.specs.Inner.{Readable, Stores, answer_of, reacts_in, transactions_in}
@@ -86,13 +87,13 @@ module _ (k : Control) (settings : Settings) (pagers array buffer string : List 
   stepped-other h = rw (ne_eqb _ 2000 h)
 
 -- a refusal leaves the state and all memory
-pub steps-refused : {o : Outcome (Reaction (List (List ℕ)))} (n : ℕ) (s : State) (w : Written) (buffer out : List ℕ) → o ≡ refused n → written_as w ≡ refused n →
+pub steps-refused : {o : Outcome (Reaction (List (List ℕ)))} (n : ℕ) (s : State) (w : Result ℕ Refusal) (buffer out : List ℕ) → o ≡ refused n → outcome_of w ≡ refused n →
     Steps o s (record { outcome = w; state = s }) buffer buffer out out
 unfolding stored_in
 steps-refused n s w buffer out e a = record { answers = rw e a; state = rw e; stored = rw e; leaves = rw e (overlay-none out) }
 
 -- a step that is done: the reaction is stored, and its answer written
-pub steps-done : {o : Outcome (Reaction (List (List ℕ)))} {x : Reaction (List (List ℕ))} {s : State} {r : Reacted} {w : Written} {array' buffer buffer' out out' : List ℕ} → o ≡ done x →
+pub steps-done : {o : Outcome (Reaction (List (List ℕ)))} {x : Reaction (List (List ℕ))} {s : State} {r : Reacted} {w : Result ℕ Refusal} {array' buffer buffer' out out' : List ℕ} → o ≡ done x →
     Stores x r s.pending array' buffer buffer' → Wrote (done (answer_bytes (answer_of r.answer))) w out out' →
     Steps o s (record { outcome = w; state = state_of r.control array' }) buffer buffer' out out'
 steps-done e d w =

@@ -1,30 +1,27 @@
 -- What is heard: by its length, by what taking parity off gives, and by what reading it as a block gives.
-use mathlib.Core.Bool.{true, ◌&&◌, false≢true, and-eq-true_iff}
-use mathlib.Core.List.{List, [], ◌∷◌}
+use mathlib.Core.Bool.{true, ◌&&◌, false≢true, and_assoc}
+use mathlib.Core.List.{List, [], ◌∷◌, ◌++◌}
 use mathlib.Core.Path.{◌≡◌, refl}
-use Prim.Native.Nat.{ℕ, ◌-◌, ◌≤◌}
+use Prim.Native.Nat.{ℕ}
 use native.Mathlib.Omega.{arith}
-use borrow.Author.Tests.{leb-true}
-use lib.Dec.{leb}
+use lib.Dec.{eqb}
 use lib.ListN.{length, take, drop}
+use lib.Pointwise.{pointwise}
 use Rattle.line.specs.Answer.{Outcome, done, refused, map_done}
-use Rattle.line.specs.Character.{CR, ESC, alphanumeric}
 use Rattle.line.specs.Parity.{parity_off}
-use Rattle.line.specs.Test.{all, same}
+use Rattle.line.specs.Test.{same}
 use Rattle.block.specs.Block.{Segment, inside, right, read_block}
 use Rattle.block.specs.declared.frame.Ending.{Ending}
 use Rattle.block.proofs.FrameLaws.{read_write, read_done}
-use Rattle.central.specs.Hearing.{silence, block, middle, logs_on, heard_block, heard_text, heard}
+use Rattle.central.specs.Hearing.{silence, block, heard_block, heard_text, heard}
 use Rattle.central.specs.declared.state.Stage.{Stage}
 
--- a logon has at least five characters
-pub logon-long : (t : List ℕ) → logs_on t ≡ true → 5 ≤ length t
-logon-long t e =
-    let n = length t in
-    let (p, _) = (and-eq-true_iff (leb 5 n && leb n 11 && same (take 1 t) (ESC ∷ []) && all alphanumeric (middle t)) (same (drop (n - 1) t) (CR ∷ []))).0 e in
-    let (q, _) = (and-eq-true_iff (leb 5 n && leb n 11 && same (take 1 t) (ESC ∷ [])) (all alphanumeric (middle t))).0 p in
-    let (r, _) = (and-eq-true_iff (leb 5 n && leb n 11) (same (take 1 t) (ESC ∷ []))).0 q in
-    leb-true 5 n ((and-eq-true_iff (leb 5 n) (leb n 11)).0 r).0
+-- a text is the same as two joined where it begins with the first and the rest is the second
+pub begun : (xs a b : List ℕ) → same xs (a ++ b) ≡ (pointwise eqb (take (length a) xs) a && same (drop (length a) xs) b)
+unfolding same
+begun xs [] b = refl
+begun [] (y ∷ a) b = refl
+begun (x ∷ xs) (y ∷ a) b = rw (begun xs a b, and_assoc)
 
 -- nothing came
 pub heard-silence : (stage : Stage) (string : List ℕ) → length string ≡ 0 → heard stage string ≡ silence

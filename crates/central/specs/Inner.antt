@@ -6,11 +6,10 @@ use Rattle.line.specs.Character.{textual}
 use Rattle.line.specs.Test.{all}
 use Rattle.journal.specs.Storage.{decode_in, size_of, stored_in}
 use Rattle.central.specs.Hearing.{Heard}
-use Rattle.central.specs.Reaction.{Answer, nothing, idRequest, acceptance, ack, nak, rs, hangUp, answer_text, meets, Central, Reaction, stores, drops, takes, reacts}
+use Rattle.central.specs.Reaction.{Answer, nothing, idRequest, acceptance, ack, nak, rs, hangUp, meets, Central, Reaction, stores, drops, takes, reacts}
 use Rattle.central.specs.Step.{rules_of}
 use Rattle.central.specs.declared.answer.Answer as Code
 use Rattle.central.specs.declared.answer.Answer.TheVariants.{Nothing, IdRequest, Acceptance, Ack, Nak, Rs, HangUp}
-use Rattle.central.specs.declared.answer.Text.{Text}
 use Rattle.central.specs.declared.reaction.Reacted.{Reacted}
 use Rattle.central.specs.declared.state.Control.{Control}
 use Rattle.central.specs.declared.state.Settings.{Settings}
@@ -63,11 +62,6 @@ answer_of Ack = ack
 answer_of Nak = nak
 answer_of Rs = rs
 answer_of HangUp = hangUp
-
--- a text that is an answer's
-pub record Spells (a : Answer) (t : Text) : Type 0 where
-  pub within : t.length ≤ 7
-  pub text : take t.length t.characters ≡ answer_text a
 
 -- what the central does at a stage with what it heard, over the journal in the buffer
 abbrev pub reacts_in : Settings → List ℕ → Control → List ℕ → List ℕ → (stage : Stage) → Heard stage → Reaction (List (List ℕ))

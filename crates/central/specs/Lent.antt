@@ -1,9 +1,8 @@
 -- A saved state whose unfinished information lies in lent memory (R-7.11): its control beside the array. A step there is the step
 -- of the state that both are.
-use Rattle.std.specs.Prelude.{List, ℕ, eqb, length, if◌then◌else◌}
+use Rattle.std.specs.Prelude.{List, ℕ, eqb, length, Err, if◌then◌else◌}
 use Rattle.line.specs.Answer.{Outcome, refused}
 use Rattle.line.specs.declared.answer.Refusal.{Refusal}
-use Rattle.line.specs.declared.answer.Written.TheVariants.{Refused}
 use Rattle.central.specs.Reaction.{Reaction}
 use Rattle.central.specs.Step.{stepped, dropped}
 use Rattle.central.specs.declared.state.Control.{Control}
@@ -40,4 +39,4 @@ dropped_in k array settings = if eqb (length array) 2000 then dropped (state_of 
 
 -- a refusal, which leaves the control
 abbrev pub refusing : Control → Refusal → Moved
-refusing k q = record { outcome = Refused q; control = k }
+refusing k q = record { outcome = Err q; control = k }

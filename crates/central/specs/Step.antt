@@ -1,6 +1,6 @@
 -- One step of the central (document 01, "The central's steps"): recognize, react, answer.
 use Rattle.std.specs.Prelude.{Bool, not, ◌&&◌, List, ◌≡◌, ℕ, leb, ltb, eqb, length, take, replicate, if◌then◌else◌}
-use Rattle.line.specs.Answer.{Outcome, done, refused, map_done, output, overlay, written_as}
+use Rattle.line.specs.Answer.{Outcome, done, refused, map_done, output, overlay, outcome_of}
 use Rattle.line.specs.Character.{textual}
 use Rattle.line.specs.Password.{password_text, password_in_range}
 use Rattle.line.specs.Test.{all}
@@ -85,7 +85,7 @@ state_behind s (refused n) = s
 
 -- what a step owes: the count, the state, the journal's buffer and the output (R-7.9)
 pub record Steps (o : Outcome (Reaction (List (List ℕ)))) (s : State) (r : Stepped) (buffer buffer' out out' : List ℕ) : Type 0 where
-  pub answers : written_as r.outcome ≡ map_done (λ x. length (answer_bytes x.answer)) o
+  pub answers : outcome_of r.outcome ≡ map_done (λ x. length (answer_bytes x.answer)) o
   pub state : r.state ≡ state_behind s o
   pub stored : buffer' ≡ stored_in (map_done (λ x. x.next.journal) o) buffer
   pub leaves : out' ≡ overlay (output (map_done (λ x. answer_bytes x.answer) o)) out
@@ -109,5 +109,5 @@ behind_drop s (refused n) = s
 
 -- what dropping the line owes: a count of nought, and the state (R-7.7)
 pub record Drops (o : Outcome State) (s : State) (r : Stepped) : Type 0 where
-  pub answers : written_as r.outcome ≡ map_done (λ _. 0) o
+  pub answers : outcome_of r.outcome ≡ map_done (λ _. 0) o
   pub state : r.state ≡ behind_drop s o

@@ -1,10 +1,10 @@
 // What the central answers, and its bytes on the line.
-ghost use Rattle.std.specs.Prelude.{◌≤◌, length};
+ghost use Rattle.std.specs.Prelude.{◌≡◌, ◌≤◌, length};
 ghost use Rattle.line.specs.Answer.{Wrote, done};
-ghost use Rattle.central.specs.Inner.{Spells, answer_of};
-ghost use Rattle.central.specs.Reaction.{answer_bytes};
+ghost use Rattle.central.specs.Inner.{answer_of};
+ghost use Rattle.central.specs.Reaction.{answer_bytes, answer_text};
 
-use line::Written;
+use line::Refusal;
 use line::character::{ACK, CR, EOT, ESC, NAK, RS};
 use line::parity::set_parity;
 
@@ -22,56 +22,25 @@ pub enum Answer {
     HangUp,
 }
 
-// The characters of an answer, at the start of the array.
-#[derive(Clone, Copy)]
-pub struct Text {
-    pub characters: [u8; 7],
-    pub length: usize,
-}
-
 // The bytes of the answer, with parity.
-pub(crate) fn put_answer(answer: Answer, out: &mut [u8]) -> Written
+pub(crate) fn put_answer(answer: Answer, out: &mut [u8]) -> Result<usize, Refusal>
     requires { 7 ≤ length out.old }
     ensures { Wrote (done (answer_bytes (answer_of answer))) result out.old out.new }
 {
-    let text = text_of(answer);
-    let characters = text.characters;
-    let length = text.length;
-    set_parity(&characters[..length], out)
+    set_parity(text_of(answer), out)
 }
 
 // The characters of the answer.
-fn text_of(answer: Answer) -> Text
-    ensures { Spells (answer_of answer) result }
+fn text_of(answer: Answer) -> &'static [u8]
+    ensures { result.now ≡ answer_text (answer_of answer) }
 {
     match answer {
-        Answer::Nothing => Text {
-            characters: [0; 7],
-            length: 0,
-        },
-        Answer::IdRequest => Text {
-            characters: [b'I', b'D', b'=', CR, 0, 0, 0],
-            length: 4,
-        },
-        Answer::Acceptance => Text {
-            characters: [CR, ACK, CR, ESC, b'[', b'p', CR],
-            length: 7,
-        },
-        Answer::Ack => Text {
-            characters: [CR, ACK, CR, 0, 0, 0, 0],
-            length: 3,
-        },
-        Answer::Nak => Text {
-            characters: [CR, NAK, CR, 0, 0, 0, 0],
-            length: 3,
-        },
-        Answer::Rs => Text {
-            characters: [CR, RS, CR, 0, 0, 0, 0],
-            length: 3,
-        },
-        Answer::HangUp => Text {
-            characters: [CR, ESC, EOT, CR, 0, 0, 0],
-            length: 4,
-        },
+        Answer::Nothing => &[],
+        Answer::IdRequest => b"ID=\r",
+        Answer::Acceptance => &[CR, ACK, CR, ESC, b'[', b'p', CR],
+        Answer::Ack => &[CR, ACK, CR],
+        Answer::Nak => &[CR, NAK, CR],
+        Answer::Rs => &[CR, RS, CR],
+        Answer::HangUp => &[CR, ESC, EOT, CR],
     }
 }

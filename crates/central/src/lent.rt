@@ -1,7 +1,8 @@
 // The central's steps over unfinished information that lies in lent memory: it is handed over without a copy.
+// These and the steps in step.rt are one step, in two ways of keeping the state.
 ghost use Rattle.std.specs.Prelude.{◌≡◌};
 ghost use Rattle.std.proofs.Math.ListN as ListN;
-ghost use Rattle.line.specs.Answer.{checked_as, map_done};
+ghost use Rattle.line.specs.Answer.{map_done, outcome_of};
 ghost use Rattle.central.specs.Hearing.{heard};
 ghost use Rattle.central.specs.Inner.{Ready, Stores, reacts_in};
 ghost use Rattle.central.specs.Lent.{dropped_in, refusing, start_in, state_of, stepped_in, whole_of};
@@ -9,13 +10,13 @@ ghost use Rattle.central.specs.Step.{Drops, Steps, tested};
 
 use crate::answer::{Answer, put_answer};
 use crate::range::{in_range, is_kept};
-use crate::reaction::{Reacted, react_to, stay, unrecognized};
+use crate::reaction::{Reacted, Setup, react_to, stay, unrecognized};
 use crate::state::{Control, Moved, Settings, Stage};
 use crate::step::{ANSWER, STRING};
 use journal::buffer::check_in;
+use line::Refusal;
 use line::parity::clear_parity;
 use line::transaction::MOST_INFORMATION;
-use line::{Checked, Refusal, Written};
 
 // The state before the first call, over a journal of this length; the lent memory may hold anything.
 pub fn start(journal: usize) -> Control
@@ -39,7 +40,7 @@ pub fn hang_up(control: Control, settings: Settings, pending: &[u8]) -> Moved
         return refuse(control, Refusal::Range);
     }
     Moved {
-        outcome: Written::Count(0),
+        outcome: Ok(0),
         control: start(control.journal),
     }
 }
@@ -64,17 +65,14 @@ pub fn step(
     if pending.len() != MOST_INFORMATION {
         return refuse(control, Refusal::Range);
     }
-    let tested = test(control, settings, pagers, journal, pending, out.len());
-    if let Checked::Refused(refusal) = tested {
+    let setup = Setup { settings, pagers };
+    if let Err(refusal) = test(control, setup, journal, pending, out.len()) {
         return refuse(control, refusal);
     }
-    let reacted = react(control, settings, pagers, journal, pending, string);
-    let answer = reacted.answer;
-    let next = reacted.control;
-    let outcome = put_answer(answer, out);
+    let reacted = react(control, setup, journal, pending, string);
     Moved {
-        outcome,
-        control: next,
+        outcome: put_answer(reacted.answer, out),
+        control: reacted.control,
     }
 }
 
@@ -83,7 +81,7 @@ fn refuse(control: Control, refusal: Refusal) -> Moved
     ensures { result ≡ refusing control refusal }
 {
     Moved {
-        outcome: Written::Refused(refusal),
+        outcome: Err(refusal),
         control,
     }
 }
@@ -91,22 +89,21 @@ fn refuse(control: Control, refusal: Refusal) -> Moved
 // How many transactions the journal has, or why the step is refused.
 fn test(
     control: Control,
-    settings: Settings,
-    pagers: &[u32],
+    setup: Setup,
     journal: &[u8],
     pending: &[u8],
     room: usize,
-) -> Checked
+) -> Result<usize, Refusal>
     requires { ListN.length pending.now ≡ 2000 }
-    ensures { checked_as result ≡
+    ensures { outcome_of result ≡
         map_done ListN.length
-        (tested (state_of control pending.now) settings pagers.now journal.now room) }
+        (tested (state_of control pending.now) setup.entry.settings setup.entry.pagers.now journal.now room) }
 {
-    if !in_range(settings, pagers, control, pending) {
-        return Checked::Refused(Refusal::Range);
+    if !in_range(setup.settings, setup.pagers, control, pending) {
+        return Err(Refusal::Range);
     }
     if room < ANSWER {
-        return Checked::Refused(Refusal::Size);
+        return Err(Refusal::Size);
     }
     check_in(journal, control.journal)
 }
@@ -114,24 +111,23 @@ fn test(
 // What the central does with a string, once it may be heard.
 fn react(
     control: Control,
-    settings: Settings,
-    pagers: &[u32],
+    setup: Setup,
     journal: &mut [u8],
     pending: &mut [u8],
     string: &[u8],
 ) -> Reacted
-    requires { Ready settings control pending.old journal.old }
+    requires { Ready setup.settings control pending.old journal.old }
     ensures { Stores
-        (reacts_in settings pagers.now control pending.old journal.old
+        (reacts_in setup.entry.settings setup.entry.pagers.now control pending.old journal.old
         control.stage (heard control.stage string.now))
         result pending.old pending.new journal.old journal.new }
 {
-    if string.len() == 0 {
+    if string.is_empty() {
         return stay(control, Answer::Nothing);
     }
     let mut text = [0u8; STRING];
-    let Written::Count(n) = clear_parity(string, &mut text) else {
-        return unrecognized(control, settings);
+    let Ok(n) = clear_parity(string, &mut text) else {
+        return unrecognized(control, setup.settings);
     };
-    react_to(control, settings, pagers, journal, pending, &text[..n])
+    react_to(control, setup, journal, pending, &text[..n])
 }

@@ -39,13 +39,8 @@ pub(crate) fn has_password(word: &[u8], password: Password) -> bool
     requires { password.length ≤ 6 }
     ensures { result ≡ same word.now (bytes_of "PG1" ++ password_text password) }
 {
-    if word.len() < 3 {
+    let Some(rest) = word.strip_prefix(b"PG1") else {
         return false;
-    }
-    if !is_same(&word[..3], b"PG1") {
-        return false;
-    }
-    let characters = password.characters;
-    let length = password.length;
-    is_same(&word[3..], &characters[..length])
+    };
+    is_same(rest, &password.characters[..password.length])
 }

@@ -25,10 +25,7 @@ pub(crate) fn in_range(settings: Settings, pagers: &[u32], control: Control, pen
         (settings_in_range settings && pagers_in_range pagers.now &&
         state_in_range settings (state_of control pending.now)) }
 {
-    if !pagers_in_range(pagers) {
-        return false;
-    }
-    is_kept(settings, control, pending)
+    pagers_in_range(pagers) && is_kept(settings, control, pending)
 }
 
 // Settings and saved state are in range.
@@ -36,30 +33,20 @@ pub(crate) fn is_kept(settings: Settings, control: Control, pending: &[u8]) -> b
     requires { length pending.now ≡ 2000 }
     ensures { result ≡ (settings_in_range settings && state_in_range settings (state_of control pending.now)) }
 {
-    if !settings_in_range(settings) {
-        return false;
-    }
-    state_in_range(settings, control, pending)
+    settings_in_range(settings) && state_in_range(settings, control, pending)
 }
 
 // A password, the longest transaction 3 to 2,000 characters, and the retry limit at most 9.
 pub fn settings_in_range(settings: Settings) -> bool
     ensures { result ≡ settings_in_range settings }
 {
-    let password = settings.password;
-    if !is_password(password) {
-        return false;
-    }
-    if settings.longest < LEAST_LONGEST {
-        return false;
-    }
-    if MOST_INFORMATION < settings.longest {
-        return false;
-    }
-    settings.retries <= MOST_RETRIES
+    is_password(settings.password)
+        && LEAST_LONGEST <= settings.longest
+        && settings.longest <= MOST_INFORMATION
+        && settings.retries <= MOST_RETRIES
 }
 
-// At most 1,000 numbers of at most eight digits.
+// At most 1,000 numbers of at most eight digits. A loop of its own: `line::test::every` is of bytes.
 pub fn pagers_in_range(pagers: &[u32]) -> bool
     ensures { result ≡ pagers_in_range pagers.now }
 {
@@ -67,10 +54,8 @@ pub fn pagers_in_range(pagers: &[u32]) -> bool
         return false;
     }
     let mut every = true;
-    let mut i = 0;
-    while i < pagers.len() {
-        every = every & is_number(pagers[i]);
-        i += 1;
+    for &n in pagers {
+        every &= is_number(n);
     }
     every
 }
@@ -86,25 +71,17 @@ fn state_in_range(settings: Settings, control: Control, pending: &[u8]) -> bool
     requires { settings.longest ≤ length pending.now }
     ensures { result ≡ state_in_range settings (state_of control pending.now) }
 {
-    let stage = control.stage;
-    let length = control.length;
-    if !failures_in_range(stage, settings.retries, control.failures) {
-        return false;
-    }
-    if !length_in_range(stage, settings.longest, length) {
-        return false;
-    }
-    are(&pending[..length], Class::Textual)
+    failures_in_range(control.stage, settings.retries, control.failures)
+        && length_in_range(control.stage, settings.longest, control.length)
+        && are(&pending[..control.length], Class::Textual)
 }
 
 fn failures_in_range(stage: Stage, most: usize, n: usize) -> bool
     ensures { result ≡ failures_in_range stage most n }
 {
     match stage {
-        Stage::Idle => n == 0,
-        Stage::Logon => n <= most,
-        Stage::Block => n <= most,
-        Stage::Closed => n == 0,
+        Stage::Logon | Stage::Block => n <= most,
+        Stage::Idle | Stage::Closed => n == 0,
     }
 }
 
@@ -112,9 +89,7 @@ fn length_in_range(stage: Stage, most: usize, n: usize) -> bool
     ensures { result ≡ length_in_range stage most n }
 {
     match stage {
-        Stage::Idle => n == 0,
-        Stage::Logon => n == 0,
         Stage::Block => n <= most,
-        Stage::Closed => n == 0,
+        Stage::Idle | Stage::Logon | Stage::Closed => n == 0,
     }
 }

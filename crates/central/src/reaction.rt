@@ -15,12 +15,12 @@ ghost use Rattle.central.specs.declared.state.Stage.TheVariants.{Idle, Logon, Bl
 use crate::answer::Answer;
 use crate::logon::{has_password, logs_on};
 use crate::state::{Control, Settings, Stage};
-use admission::{Admitted, admit};
+use admission::admit;
+use block::Ending;
 use block::frame::{inside, read};
-use block::{Ending, Reading};
-use line::answer::number;
+use line::Refusal;
 use line::character::{CR, EOT};
-use line::memory::{copy, is_same};
+use line::memory::is_same;
 use line::transaction::MOST_INFORMATION;
 
 // The answer, and the central behind it.
@@ -30,27 +30,33 @@ pub struct Reacted {
     pub control: Control,
 }
 
+// What no step changes: the settings, and the pager list.
+#[derive(Clone, Copy)]
+pub struct Setup<'a> {
+    pub settings: Settings,
+    pub pagers: &'a [u32],
+}
+
 // What the stage does with a text. The journal is written only where a transaction is stored, the
 // pending information only where one goes on.
 pub(crate) fn react_to(
     control: Control,
-    settings: Settings,
-    pagers: &[u32],
+    setup: Setup,
     journal: &mut [u8],
     pending: &mut [u8],
     text: &[u8],
 ) -> Reacted
-    requires { Ready settings control pending.old journal.old }
+    requires { Ready setup.settings control pending.old journal.old }
     ensures { Stores
-        (reacts_in settings pagers.now control pending.old journal.old
+        (reacts_in setup.entry.settings setup.entry.pagers.now control pending.old journal.old
         control.stage (recognized control.stage text.now))
         result pending.old pending.new journal.old journal.new }
 {
-    let stage = control.stage;
-    match stage {
+    // A `match`: the stages are a closed list.
+    match control.stage {
         Stage::Idle => in_idle(control, text),
-        Stage::Logon => in_logon(control, settings, text),
-        Stage::Block => in_block(control, settings, pagers, journal, pending, text),
+        Stage::Logon => in_logon(control, setup.settings, text),
+        Stage::Block => in_block(control, setup, journal, pending, text),
         Stage::Closed => stay(control, Answer::Nothing),
     }
 }
@@ -60,12 +66,9 @@ pub(crate) fn unrecognized(control: Control, settings: Settings) -> Reacted
     requires { (settings.retries ≤ 9) × (control.failures ≤ settings.retries) }
     ensures { (pagers : List ℕ) → Does (λ c. reacts (rules_of settings pagers) c control.stage Hearing.noise) control result }
 {
-    let stage = control.stage;
-    match stage {
-        Stage::Idle => stay(control, Answer::Nothing),
-        Stage::Logon => fail(control, settings),
-        Stage::Block => fail(control, settings),
-        Stage::Closed => stay(control, Answer::Nothing),
+    match control.stage {
+        Stage::Logon | Stage::Block => fail(control, settings),
+        Stage::Idle | Stage::Closed => stay(control, Answer::Nothing),
     }
 }
 
@@ -93,9 +96,7 @@ fn in_logon(control: Control, settings: Settings, text: &[u8]) -> Reacted
     if !logs_on(text) {
         return fail(control, settings);
     }
-    let n = text.len();
-    let password = settings.password;
-    if !has_password(&text[1..n - 1], password) {
+    if !has_password(&text[1..text.len() - 1], settings.password) {
         return fail(control, settings);
     }
     enter(control, Stage::Block, Answer::Acceptance)
@@ -104,67 +105,49 @@ fn in_logon(control: Control, settings: Settings, text: &[u8]) -> Reacted
 // EOT CR: the call is over. A block is taken, or refused by its information. All else is a failure.
 fn in_block(
     control: Control,
-    settings: Settings,
-    pagers: &[u32],
+    setup: Setup,
     journal: &mut [u8],
     pending: &mut [u8],
     text: &[u8],
 ) -> Reacted
-    requires { Ready settings control pending.old journal.old }
+    requires { Ready setup.settings control pending.old journal.old }
     ensures { Stores
-        (reacts_in settings pagers.now control pending.old journal.old
+        (reacts_in setup.entry.settings setup.entry.pagers.now control pending.old journal.old
         Block (recognized Block text.now))
         result pending.old pending.new journal.old journal.new }
 {
     if is_same(text, &[EOT, CR]) {
         return enter(control, Stage::Closed, Answer::HangUp);
     }
-    let reading = read(text);
-    match reading {
-        Reading::Block(ending) => take_block(
-            control,
-            settings,
-            pagers,
-            journal,
-            pending,
-            inside(text),
-            ending,
-        ),
-        Reading::Refused(refusal) => {
-            // 6: right in its frame, and wrong in its information.
-            if number(refusal) == 6 {
-                return enter(control, Stage::Block, Answer::Rs);
-            }
-            fail(control, settings)
-        }
+    match read(text) {
+        Ok(ending) => take_block(control, setup, journal, pending, inside(text), ending),
+        // Right in its frame, and wrong in its information.
+        Err(Refusal::Information) => enter(control, Stage::Block, Answer::Rs),
+        Err(_) => fail(control, setup.settings),
     }
 }
 
 // A block whose information is right: the pending information goes on, or the transaction is whole.
 fn take_block(
     control: Control,
-    settings: Settings,
-    pagers: &[u32],
+    setup: Setup,
     journal: &mut [u8],
     pending: &mut [u8],
     info: &[u8],
     ending: Ending,
 ) -> Reacted
-    requires { Ready settings control pending.old journal.old × (right info.now ending ≡ true) }
+    requires { Ready setup.settings control pending.old journal.old × (right info.now ending ≡ true) }
     ensures { Stores
-        (takes_in settings pagers.now control pending.old journal.old
+        (takes_in setup.entry.settings setup.entry.pagers.now control pending.old journal.old
         (pending_in control pending.old ++ info.now) (continues ending))
         result pending.old pending.new journal.old journal.new }
 {
-    let length = control.length;
-    let n = length + info.len();
-    if settings.longest < n {
+    if setup.settings.longest < control.length + info.len() {
         return enter(control, Stage::Block, Answer::Rs);
     }
     match ending {
-        Ending::Etx => conclude(control, settings, pagers, journal, pending, info),
-        Ending::Etb => go_on(control, pending, info),
-        Ending::Us => go_on(control, pending, info),
+        Ending::Etx => conclude(control, setup, journal, pending, info),
+        Ending::Etb | Ending::Us => go_on(control, pending, info),
     }
 }
 
@@ -172,27 +155,25 @@ fn take_block(
 // copy; a transaction of one block needs none.
 fn conclude(
     control: Control,
-    settings: Settings,
-    pagers: &[u32],
+    setup: Setup,
     journal: &mut [u8],
     pending: &[u8],
     info: &[u8],
 ) -> Reacted
-    requires { Ready settings control pending.now journal.old ×
+    requires { Ready setup.settings control pending.now journal.old ×
         (legal (pending_in control pending.now ++ info.now) ≡ true) ×
-        (ListN.length (pending_in control pending.now ++ info.now) ≤ settings.longest) }
+        (ListN.length (pending_in control pending.now ++ info.now) ≤ setup.settings.longest) }
     ensures { Stores
-        (concludes_in settings pagers.now control pending.now journal.old
+        (concludes_in setup.entry.settings setup.entry.pagers.now control pending.now journal.old
         (pending_in control pending.now ++ info.now))
         result pending.now pending.now journal.old journal.new }
 {
-    let length = control.length;
-    if length == 0 {
-        return store(control, settings, pagers, journal, info);
+    if control.length == 0 {
+        return store(control, setup, journal, info);
     }
     let mut whole = [0u8; MOST_INFORMATION];
-    let n = join(&pending[..length], info, &mut whole);
-    store(control, settings, pagers, journal, &whole[..n])
+    let n = join(&pending[..control.length], info, &mut whole);
+    store(control, setup, journal, &whole[..n])
 }
 
 // Both texts, one behind the other, at the start of the output.
@@ -201,32 +182,33 @@ fn join(first: &[u8], second: &[u8], out: &mut [u8]) -> usize
     ensures { Laid (first.now ++ second.now) result out.old out.new }
 {
     let n = first.len();
-    copy(first, out);
-    copy(second, &mut out[n..]);
-    n + second.len()
+    let end = n + second.len();
+    out[..n].copy_from_slice(first);
+    out[n..end].copy_from_slice(second);
+    end
 }
 
 // A whole transaction: appended and acknowledged if it is admitted, else refused.
-fn store(
-    control: Control,
-    settings: Settings,
-    pagers: &[u32],
-    journal: &mut [u8],
-    info: &[u8],
-) -> Reacted
+fn store(control: Control, setup: Setup, journal: &mut [u8], info: &[u8]) -> Reacted
     requires { Readable journal.old control.journal × (legal info.now ≡ true) }
     ensures { (array : List ℕ) → control.length ≤ ListN.length array →
         Stores
-        (concludes_in settings pagers.now control array journal.old info.now)
+        (concludes_in setup.entry.settings setup.entry.pagers.now control array journal.old info.now)
         result array array journal.old journal.new }
 {
-    let length = control.journal;
-    let admitted = admit(info, settings.longest, pagers, journal, length);
-    let Admitted::Stored(n) = admitted else {
+    let Ok(Some(n)) = admit(
+        info,
+        setup.settings.longest,
+        setup.pagers,
+        journal,
+        control.journal,
+    ) else {
         return enter(control, Stage::Block, Answer::Rs);
     };
-    let mut stored = control;
-    stored.journal = n;
+    let stored = Control {
+        journal: n,
+        ..control
+    };
     enter(stored, Stage::Block, Answer::Ack)
 }
 
@@ -235,14 +217,14 @@ fn go_on(control: Control, pending: &mut [u8], info: &[u8]) -> Reacted
     requires { control.length + ListN.length info.now ≤ ListN.length pending.old }
     ensures { Continues control info.now result pending.old pending.new }
 {
-    let length = control.length;
-    copy(info, &mut pending[length..]);
+    let end = control.length + info.len();
+    pending[control.length..end].copy_from_slice(info);
     Reacted {
         answer: Answer::Ack,
         control: Control {
             stage: Stage::Block,
             failures: 0, // ACK starts the row again.
-            length: length + info.len(),
+            length: end,
             journal: control.journal,
         },
     }
@@ -256,11 +238,12 @@ fn fail(control: Control, settings: Settings) -> Reacted
     if control.failures == settings.retries {
         return enter(control, Stage::Closed, Answer::HangUp);
     }
-    let mut failed = control;
-    failed.failures = control.failures + 1;
     Reacted {
         answer: Answer::Nak,
-        control: failed,
+        control: Control {
+            failures: control.failures + 1,
+            ..control
+        },
     }
 }
 

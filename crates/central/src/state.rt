@@ -1,5 +1,5 @@
 // The central's settings, its saved state, and what a step answers.
-use line::{Password, Written};
+use line::{Password, Refusal};
 
 #[derive(Clone, Copy)]
 pub struct Settings {
@@ -10,7 +10,7 @@ pub struct Settings {
     pub retries: usize,
 }
 
-#[derive(Clone, Copy)]
+#[derive(Clone, Copy, Debug, PartialEq, Eq)]
 pub enum Stage {
     // Nobody calls.
     Idle,
@@ -27,17 +27,18 @@ pub struct State {
     pub stage: Stage,
     // Failures in a row.
     pub failures: usize,
-    // The unfinished information and its length; what stands behind it is free.
+    // The unfinished information and its length; what stands behind it is free. There is no heap, so no `Vec`.
     pub pending: [u8; 2000],
     pub length: usize,
     // The length of the journal.
     pub journal: usize,
 }
 
-// The bytes put out, or the refusal; and the state behind the step.
+// The bytes put out, or the refusal; and the state behind the step. A refusal hands the state back
+// too: no `Result` round both.
 #[derive(Clone, Copy)]
 pub struct Stepped {
-    pub outcome: Written,
+    pub outcome: Result<usize, Refusal>,
     pub state: State,
 }
 
@@ -50,9 +51,9 @@ pub struct Control {
     pub journal: usize,
 }
 
-// The same as `Stepped`, beside lent memory.
+// The same as `Stepped`, beside lent memory, and no `Result` round both for the same reason.
 #[derive(Clone, Copy)]
 pub struct Moved {
-    pub outcome: Written,
+    pub outcome: Result<usize, Refusal>,
     pub control: Control,
 }

@@ -1,4 +1,5 @@
 // The central's steps over a state that is one value.
+// These and the steps in lent.rt are one step, in two ways of keeping the state.
 ghost use Rattle.std.specs.Prelude.{◌≡◌};
 ghost use Rattle.std.proofs.Math.ListN as ListN;
 ghost use Rattle.central.specs.Lent.{control_in, whole_of};
@@ -63,13 +64,12 @@ pub fn step(
     join(moved, pending)
 }
 
-// All of a state but the unfinished information itself.
+// All of a state but the unfinished information itself: part of it, so no `From`.
 pub fn control_of(state: State) -> Control
     ensures { result ≡ control_in state }
 {
-    let stage = state.stage;
     Control {
-        stage,
+        stage: state.stage,
         failures: state.failures,
         length: state.length,
         journal: state.journal,
@@ -80,13 +80,11 @@ pub fn control_of(state: State) -> Control
 pub fn join(moved: Moved, pending: [u8; 2000]) -> Stepped
     ensures { result ≡ whole_of moved pending }
 {
-    let outcome = moved.outcome;
     let control = moved.control;
-    let stage = control.stage;
     Stepped {
-        outcome,
+        outcome: moved.outcome,
         state: State {
-            stage,
+            stage: control.stage,
             failures: control.failures,
             pending,
             length: control.length,

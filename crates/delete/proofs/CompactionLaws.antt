@@ -1,15 +1,14 @@
 -- Compaction goes by the walk back: what a step hands out is one record more behind those kept before it, or none if it is chosen.
-use Rattle.std.specs.Prelude.{if◌then◌else◌}
+use Rattle.std.specs.Prelude.{None, Some, Result, Ok, Err, IsErrAnd, if◌then◌else◌}
 use mathlib.Core.Bool.{Bool, true, false}
 use mathlib.Core.List.{List, [], ◌∷◌, ◌++◌, append_assoc, reverse, reverse-cons}
-use mathlib.Core.Option.{none, some}
 use mathlib.Core.Path.{◌≡◌, refl, sym, ap, ◌∙◌}
 use Prim.Native.Nat.{ℕ, ◌+◌, ◌≤◌}
 use native.Mathlib.Omega.{arith}
 use lib.ListN.{length, take, drop, length-append, length-reverse, take-append-drop}
 use lib.Seq.{length-take-le, drop_at, take_at}
 use Rattle.line.proofs.AllLaws.{all_take}
-use Rattle.line.proofs.OutcomeLaws.{map-done, map-refused}
+use Rattle.line.proofs.OutcomeLaws.{map-done, map-refused, handed-refusal}
 use Rattle.line.proofs.OverlayLaws.{overlay-none}
 use Rattle.line.specs.Answer.{Outcome, done, refused, refusal_number, map_done, output, overlay}
 use Rattle.line.specs.Character.{byte}
@@ -22,7 +21,6 @@ use Rattle.journal.proofs.WalkLaws.{walk-bytes, walk-length}
 use Rattle.journal.specs.Cursor.{transaction_at, walk_from}
 use Rattle.journal.specs.Encoding.{record_of, records_of}
 use Rattle.journal.specs.Walk.{step_from}
-use Rattle.journal.specs.declared.cursor.Opened.TheVariants.{At, Refused}
 use Rattle.journal.specs.declared.cursor.Place.{Place}
 use Rattle.journal.specs.declared.cursor.Position.{Position}
 use Rattle.delete.specs.Inner.{Compacts, end_of, is_chosen, kept_from, moved_down, one_more}
@@ -41,7 +39,7 @@ pub record Compacted (choice : Choice) (rank : ℕ) (b after : List ℕ) (p kept
   pub ends : end_of (reverse (kept_from choice rank met)) ≡ kept
   pub laid : after ≡ overlay (records_of (reverse (kept_from choice rank met))) b
 
-pub compacted : (choice : Choice) (rank : ℕ) (b after : List ℕ) (p kept : Position) → Compacts (kept_before choice rank b p) (At kept) b after → Compacted choice rank b after p kept
+pub compacted : (choice : Choice) (rank : ℕ) (b after : List ℕ) (p kept : Position) → Compacts (kept_before choice rank b p) (Ok kept) b after → Compacted choice rank b after p kept
 compacted choice rank b after p kept c =
     let (ks, made, e) = map-done end_of (kept_before choice rank b p) kept (sym c.answers) in
     let (rs, walk, same) = map-done _ (walk_from b p) ks made in
@@ -52,7 +50,7 @@ pub walked-bytes : (b : List ℕ) (p : Position) (rs : List (List ℕ)) → all 
 walked-bytes b p rs bytes walk = walk-bytes p.left (take p.end b) rs (all_take byte p.end b bytes) walk
 
 -- those kept end before the position, and are no more than were left
-pub compacts_within : (choice : Choice) (rank : ℕ) (b after : List ℕ) (p kept : Position) → p.end ≤ length b → all byte b ≡ true → Compacts (kept_before choice rank b p) (At kept) b after → (kept.end ≤ p.end) × (kept.left ≤ p.left)
+pub compacts_within : (choice : Choice) (rank : ℕ) (b after : List ℕ) (p kept : Position) → p.end ≤ length b → all byte b ≡ true → Compacts (kept_before choice rank b p) (Ok kept) b after → (kept.end ≤ p.end) × (kept.left ≤ p.left)
 compacts_within choice rank b after p kept inside bytes c =
     let d = compacted choice rank b after p kept c in
     let rs = d.met in
@@ -66,17 +64,21 @@ compacts_within choice rank b after p kept inside bytes c =
     (omega arith, omega (arith, length-reverse (kept_from choice rank rs)))
 
 -- no record is left
-pub compacts_none : (choice : Choice) (rank : ℕ) (b : List ℕ) (p : Position) → p.end ≤ length b → step_from b p ≡ done none → Compacts (kept_before choice rank b p) (At (record { end = 0; left = 0 })) b b
+pub compacts_none : (choice : Choice) (rank : ℕ) (b : List ℕ) (p : Position) → p.end ≤ length b → step_from b p ≡ done None → Compacts (kept_before choice rank b p) (Ok (record { end = 0; left = 0 })) b b
 unfolding kept_from records_of
 compacts_none choice rank b p inside e = rw (walk_from_lem b p inside, e) (record { answers = refl; leaves = overlay-none b })
 
 -- the step is refused
-pub compacts_refused : (choice : Choice) (rank : ℕ) (b : List ℕ) (p : Position) (q : Refusal) → p.end ≤ length b → step_from b p ≡ refused (refusal_number q) → Compacts (kept_before choice rank b p) (Refused q) b b
+pub compacts_refused : (choice : Choice) (rank : ℕ) (b : List ℕ) (p : Position) (q : Refusal) → p.end ≤ length b → step_from b p ≡ refused (refusal_number q) → Compacts (kept_before choice rank b p) (Err q) b b
 unfolding records_of
 compacts_refused choice rank b p q inside e = rw (walk_from_lem b p inside, e) (record { answers = refl; leaves = overlay-none b })
 
+-- a refusal that is handed on with `?`
+pub compacts-handed : {o : Outcome (List (List ℕ))} (q : Refusal) (r : Result Position Refusal) (b after : List ℕ) → IsErrAnd r (λ x. x ≡ q) → Compacts o (Err q) b after → Compacts o r b after
+compacts-handed q r b after h c = record { answers = handed-refusal q r h ∙ c.answers; leaves = c.leaves }
+
 -- a step hands out a record
-module _ (choice : Choice) (rank : ℕ) (b : List ℕ) (p : Position) (q : Place) (step : step_from b p ≡ done (some q)) where
+module _ (choice : Choice) (rank : ℕ) (b : List ℕ) (p : Position) (q : Place) (step : step_from b p ≡ done (Some q)) where
   -- its transaction
   abbrev t : List ℕ
   t = transaction_at b q
@@ -86,13 +88,13 @@ module _ (choice : Choice) (rank : ℕ) (b : List ℕ) (p : Position) (q : Place
   met-first = walk_from_lem b p (step-place b p q step).inside ∙ rw step
 
   -- what is behind it is refused
-  pub compacts_stopped : (after : List ℕ) (r : Refusal) → Compacts (kept_before choice (rank + 1) b q.next) (Refused r) b after → Compacts (kept_before choice rank b p) (Refused r) b after
+  pub compacts_stopped : (after : List ℕ) (r : Refusal) → Compacts (kept_before choice (rank + 1) b q.next) (Err r) b after → Compacts (kept_before choice rank b p) (Err r) b after
   compacts_stopped after r c =
       let none : walk_from b q.next ≡ refused (refusal_number r) = map-refused _ (walk_from b q.next) _ (map-refused end_of (kept_before choice (rank + 1) b q.next) _ (sym c.answers)) in
       rw (met-first, none) (record { answers = refl; leaves = c.leaves ∙ rw none })
 
   -- those kept so far end before it, and are no more than were left
-  pub compacts_below : (after : List ℕ) (kept : Position) → all byte b ≡ true → Compacts (kept_before choice (rank + 1) b q.next) (At kept) b after → (kept.end ≤ q.start) × (kept.left ≤ q.next.left)
+  pub compacts_below : (after : List ℕ) (kept : Position) → all byte b ≡ true → Compacts (kept_before choice (rank + 1) b q.next) (Ok kept) b after → (kept.end ≤ q.start) × (kept.left ≤ q.next.left)
   compacts_below after kept bytes c =
       let s = step-place b p q step in
       let (low, few) = compacts_within choice (rank + 1) b after q.next kept (omega (arith, s.inside, s.back, s.next)) bytes c in
@@ -112,7 +114,7 @@ module _ (choice : Choice) (rank : ℕ) (b : List ℕ) (p : Position) (q : Place
 
   -- moved down it is one record more
   record_kept : (older : List (List ℕ)) (after : List ℕ) (kept : Position) → end_of (reverse older) ≡ kept → after ≡ overlay (records_of (reverse older)) b → kept.end ≤ q.start →
-      take (length (record_of t)) (drop q.start b) ≡ record_of t → Compacts (done (reverse (t ∷ older))) (At (one_more kept (q.length + 2))) b (moved_down kept.end q.start (q.length + 2) after)
+      take (length (record_of t)) (drop q.start b) ≡ record_of t → Compacts (done (reverse (t ∷ older))) (Ok (one_more kept (q.length + 2))) b (moved_down kept.end q.start (q.length + 2) after)
   record_kept older after kept ends laid below there =
       let size : length (record_of t) ≡ q.length + 2 = record_length t ∙ rw (place-length b p q (step-place b p q step)) in
       rw (← ends, laid, ← size, reverse-cons t older) (record {
@@ -121,8 +123,8 @@ module _ (choice : Choice) (rank : ℕ) (b : List ℕ) (p : Position) (q : Place
       })
 
   -- one record more, unless it is chosen
-  pub compacts_more : (chosen : Bool) (after : List ℕ) (kept : Position) → all byte b ≡ true → chosen ≡ is_chosen choice rank t → Compacts (kept_before choice (rank + 1) b q.next) (At kept) b after →
-      Compacts (kept_before choice rank b p) (At (if chosen then kept else one_more kept (q.length + 2))) b (if chosen then after else moved_down kept.end q.start (q.length + 2) after)
+  pub compacts_more : (chosen : Bool) (after : List ℕ) (kept : Position) → all byte b ≡ true → chosen ≡ is_chosen choice rank t → Compacts (kept_before choice (rank + 1) b q.next) (Ok kept) b after →
+      Compacts (kept_before choice rank b p) (Ok (if chosen then kept else one_more kept (q.length + 2))) b (if chosen then after else moved_down kept.end q.start (q.length + 2) after)
   unfolding kept_from
   compacts_more chosen after kept bytes test c = rw (met-first, d.walk, ← test) (go chosen)
     where
@@ -132,6 +134,6 @@ module _ (choice : Choice) (rank : ℕ) (b : List ℕ) (p : Position) (q : Place
       older : List (List ℕ)
       older = kept_from choice (rank + 1) d.met
 
-      go : (x : Bool) → Compacts (done (reverse (if x then older else t ∷ older))) (At (if x then kept else one_more kept (q.length + 2))) b (if x then after else moved_down kept.end q.start (q.length + 2) after)
+      go : (x : Bool) → Compacts (done (reverse (if x then older else t ∷ older))) (Ok (if x then kept else one_more kept (q.length + 2))) b (if x then after else moved_down kept.end q.start (q.length + 2) after)
       go true = record { answers = ap done (sym d.ends); leaves = d.laid }
       go false = record_kept older after kept d.ends d.laid (compacts_below after kept bytes c).0 (record_there d.met bytes d.walk)

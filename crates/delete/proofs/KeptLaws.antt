@@ -21,7 +21,7 @@ use Rattle.journal.specs.Encoding.{all_legal, records_of, Journal}
 use Rattle.delete.specs.Deletion.{without_newest, without_pager}
 use Rattle.delete.specs.Inner.{is_chosen, kept_from, without}
 use Rattle.delete.specs.declared.choice.Choice.{Choice}
-use Rattle.delete.specs.declared.choice.Choice.TheVariants.{Newest, Pager}
+use Rattle.delete.specs.declared.choice.Choice.TheVariants.{Newest, Pager, Nothing}
 
 -- the bytes of the records of transactions that are given newest first
 abbrev pub size_back : List (List ℕ) → ℕ
@@ -199,10 +199,17 @@ pager-kept : (m : ℕ) (rs : List (List ℕ)) → without_pager m (reverse rs) �
 unfolding without_pager
 pager-kept m rs = rw (pager_any m 1 rs, others-reverse m rs, ← pager-others m 1 rs) (choice-not (eqb (length (kept_from (Pager m) 1 rs)) (length rs)) (done (reverse (kept_from (Pager m) 1 rs))) (refused 9))
 
--- the answer to either
+-- all is kept where nothing is chosen
+nothing-kept : (rank : ℕ) (rs : List (List ℕ)) → kept_from Nothing rank rs ≡ rs
+unfolding kept_from
+nothing-kept rank [] = refl
+nothing-kept rank (t ∷ rs) = ap (λ us. t ∷ us) (nothing-kept (rank + 1) rs)
+
+-- the answer to each choice
 pub without-kept : (choice : Choice) (rs : List (List ℕ)) → without choice (reverse rs) ≡ answered choice rs
 without-kept (Newest n) rs = newest_kept n rs
 without-kept (Pager m) rs = pager-kept m rs
+without-kept Nothing rs = rw (nothing-kept 1 rs, eq-eqb (length rs) (length rs) refl)
 
 -- a journal without those chosen is a journal
 pub without-journal : (choice : Choice) (ts ks : List (List ℕ)) → Journal ts → without choice ts ≡ done ks → Journal ks

@@ -4,4 +4,5 @@ pub mod DeletionLaws
 pub mod GoneLaws
 pub mod KeptLaws
 pub mod MoveLaws
+pub mod NamedLaws
 pub mod RemovalLaws

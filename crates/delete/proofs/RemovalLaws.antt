@@ -1,5 +1,5 @@
 -- Records removed by their trailer: what is kept, with its trailer behind it, is the journal without the chosen ones; where as many are kept, nothing was moved.
-use Rattle.std.specs.Prelude.{if◌then◌else◌}
+use Rattle.std.specs.Prelude.{Result, Ok, Err, IsErrAnd, if◌then◌else◌}
 use mathlib.Core.Bool.{Bool, true, false, not}
 use mathlib.Core.List.{List, ◌++◌, reverse, append_assoc}
 use mathlib.Core.Path.{◌≡◌, sym, ap, ◌∙◌}
@@ -16,7 +16,7 @@ use Rattle.line.specs.Character.{byte}
 use Rattle.line.specs.Test.{all}
 use Rattle.line.specs.declared.answer.Refusal.{Refusal}
 use Rattle.line.specs.declared.answer.Refusal.TheVariants.{Range}
-use Rattle.line.specs.declared.answer.Written.TheVariants as Writing
+use Rattle.append.proofs.TailLaws.{wrote-handed}
 use Rattle.journal.proofs.RecordLaws.{encode-length}
 use Rattle.journal.proofs.StorageLaws.{in_within, trailer_in_parts}
 use Rattle.journal.proofs.WalkLaws.{walk-length}
@@ -24,7 +24,6 @@ use Rattle.journal.specs.Cursor.{walk_from}
 use Rattle.journal.specs.Encoding.{encode, records_of}
 use Rattle.journal.specs.Storage.{is_buffer, trailer_in, decode_in}
 use Rattle.journal.specs.Walk.{trailer, decode}
-use Rattle.journal.specs.declared.cursor.Opened.TheVariants.{Refused}
 use Rattle.journal.specs.declared.cursor.Position.{Position}
 use Rattle.delete.specs.Inner.{Compacts, end_of, kept_from, removed_from, trailer_of}
 use Rattle.delete.specs.declared.choice.Choice.{Choice}
@@ -36,12 +35,12 @@ use Rattle.delete.proofs.MoveLaws.{overlay-longer}
 
 module _ (choice : Choice) (b after : List ℕ) (p : Position) where
   -- the walk was refused
-  pub removed_refused : (q : Refusal) → Compacts (kept_before choice 1 b p) (Refused q) b after → Wrote (map_done encode (removed_from choice b p)) (Writing.Refused q) b after
+  pub removed_refused : (q : Refusal) (r : Result ℕ Refusal) → IsErrAnd r (λ x. x ≡ q) → Compacts (kept_before choice 1 b p) (Err q) b after → Wrote (map_done encode (removed_from choice b p)) r b after
   unfolding records_of
-  removed_refused q c =
+  removed_refused q r h c =
       let none : walk_from b p ≡ refused (refusal_number q) = map-refused _ (walk_from b p) _ (map-refused end_of (kept_before choice 1 b p) _ (sym c.answers)) in
       let same : after ≡ b = c.leaves ∙ rw none (sym (overlay-none b)) in
-      rw same (wrote-refused q b (rw none))
+      rw same (wrote-handed q r b h (rw none))
 
   -- some are kept
   module _ (kept : Position) (d : Compacted choice 1 b after p kept) where
@@ -54,7 +53,7 @@ module _ (choice : Choice) (b after : List ℕ) (p : Position) where
     counts = (sym (ap (λ (k : Position). k.left) d.ends) ∙ length-reverse (kept_from choice 1 d.met), sym (walk-length p.left (take p.end b) d.met d.walk))
 
     -- as many as there were: nothing was moved
-    pub removed_none : all byte b ≡ true → p.end ≤ length b → kept.left ≡ p.left → Wrote (map_done encode (removed_from choice b p)) (Writing.Refused Range) b after
+    pub removed_none : all byte b ≡ true → p.end ≤ length b → kept.left ≡ p.left → Wrote (map_done encode (removed_from choice b p)) (Err Range) b after
     removed_none bytes inside same =
         let many : length (kept_from choice 1 d.met) ≡ length d.met = sym counts.0 ∙ same ∙ counts.1 in
         let records = ap (λ us. records_of (reverse us)) (kept-all choice 1 d.met many) ∙ sym (walked-bytes b p d.met bytes d.walk) in
@@ -62,7 +61,7 @@ module _ (choice : Choice) (b after : List ℕ) (p : Position) where
         rw stays (wrote-refused Range b (rw (answer, eq-eqb _ _ many)))
 
     -- fewer: the trailer behind them makes them a journal
-    pub removed_some : (kept.left ≡ p.left → ⊥) → Wrote (map_done encode (removed_from choice b p)) (Writing.Count (kept.end + 4)) b (overlay (take kept.end after ++ trailer_of kept.left kept.end) after)
+    pub removed_some : (kept.left ≡ p.left → ⊥) → Wrote (map_done encode (removed_from choice b p)) (Ok (kept.end + 4)) b (overlay (take kept.end after ++ trailer_of kept.left kept.end) after)
     unfolding encode
     removed_some other =
         let ks : List (List ℕ) = reverse (kept_from choice 1 d.met) in

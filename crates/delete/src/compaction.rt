@@ -9,64 +9,54 @@ ghost use Rattle.journal.specs.Storage.{decode_in};
 ghost use Rattle.delete.specs.Inner.{Compacts, kept_from, moved_down, one_more, removed_from, trailer_of, without};
 
 use crate::choice::{Choice, is_chosen};
+use journal::Position;
 use journal::buffer::open_in;
 use journal::cursor::{LENGTH, TRAILER, step_back};
-use journal::{Opened, Position, Step};
-use line::{Refusal, Written};
+use line::Refusal;
 
 // The journal of this length without the records that are chosen, and its new length.
-pub(crate) fn remove(journal: &mut [u8], length: usize, choice: Choice) -> Written
+pub(crate) fn remove(journal: &mut [u8], length: usize, choice: Choice) -> Result<usize, Refusal>
     ensures { Wrote (map_done encode (and_then (decode_in journal.old length) (without choice)))
         result journal.old journal.new }
 {
-    let opened = open_in(journal, length);
-    match opened {
-        Opened::At(position) => remove_before(journal, position, choice),
-        Opened::Refused(refusal) => Written::Refused(refusal),
-    }
+    let position = open_in(journal, length)?;
+    remove_before(journal, position, choice)
 }
 
 // The same from the position that the trailer gives.
-fn remove_before(journal: &mut [u8], position: Position, choice: Choice) -> Written
+fn remove_before(journal: &mut [u8], position: Position, choice: Choice) -> Result<usize, Refusal>
     requires { (position.end + 4 ≤ ListN.length journal.old) × (position.end ≤ 32000) × (position.left ≤ 64) }
     ensures { Wrote (map_done encode (removed_from choice journal.old position))
         result journal.old journal.new }
 {
-    let compacted = compact(journal, position, 1, choice);
-    match compacted {
-        Opened::At(kept) => {
-            if kept.left == position.left {
-                return Written::Refused(Refusal::Range);
-            }
-            put_trailer(journal, kept.end, kept.left, kept.end);
-            Written::Count(kept.end + TRAILER)
-        }
-        Opened::Refused(refusal) => Written::Refused(refusal),
+    let kept = compact(journal, position, 1, choice)?;
+    if kept.left == position.left {
+        return Err(Refusal::Range);
     }
+    put_trailer(journal, kept.end, kept.left, kept.end);
+    Ok(kept.end + TRAILER)
 }
 
 // The records before a position without those that are chosen, the newest of them of this rank from the newest of all: where
 // they end now, and how many they are.
-fn compact(journal: &mut [u8], position: Position, rank: usize, choice: Choice) -> Opened
+fn compact(
+    journal: &mut [u8],
+    position: Position,
+    rank: usize,
+    choice: Choice,
+) -> Result<Position, Refusal>
     requires { (position.end ≤ ListN.length journal.old) × (rank + position.left ≤ 65) }
     ensures { Compacts (map_done (λ rs. reverse (kept_from choice rank rs)) (walk_from journal.old position))
         result journal.old journal.new }
 {
-    let step = step_back(journal, position);
-    match step {
-        Step::Record(found) => {
-            let start = found.start;
-            let end = start + found.length;
-            let chosen = is_chosen(choice, rank, &journal[start..end]);
-            let compacted = compact(journal, found.next, rank + 1, choice);
-            let Opened::At(kept) = compacted else {
-                return compacted;
-            };
-            Opened::At(keep(journal, kept, chosen, start, found.length + LENGTH))
-        }
-        Step::End => Opened::At(Position { end: 0, left: 0 }),
-        Step::Refused(refusal) => Opened::Refused(refusal),
-    }
+    let Some(found) = step_back(journal, position)? else {
+        return Ok(Position { end: 0, left: 0 });
+    };
+    let start = found.start;
+    let end = start + found.length;
+    let chosen = is_chosen(choice, rank, &journal[start..end]);
+    let kept = compact(journal, found.next, rank + 1, choice)?;
+    Ok(keep(journal, kept, chosen, start, found.length + LENGTH))
 }
 
 // A record of this size moves down to the end of those kept, and is the newest of them, unless it is chosen.
@@ -87,20 +77,8 @@ fn keep(journal: &mut [u8], kept: Position, chosen: bool, start: usize, size: us
     if end == start {
         return more;
     }
-    move_down(journal, end, start, size);
+    journal.copy_within(start..start + size, end);
     more
-}
-
-// So many bytes move down, from a place to an earlier one.
-fn move_down(bytes: &mut [u8], to: usize, from: usize, n: usize)
-    requires { (to ≤ from) × (from + n ≤ ListN.length bytes.old) }
-    ensures { bytes.new ≡ moved_down to from n bytes.old }
-{
-    let mut i = 0;
-    while i < n {
-        bytes[to + i] = bytes[from + i];
-        i += 1;
-    }
 }
 
 // The trailer of so many records of so many bytes, at a place.
@@ -109,8 +87,6 @@ fn put_trailer(journal: &mut [u8], at: usize, count: usize, size: usize)
     ensures { journal.new ≡
         overlay (ListN.take at journal.old ++ trailer_of count size) journal.old }
 {
-    journal[at] = (count / 256) as u8;
-    journal[at + 1] = (count % 256) as u8;
-    journal[at + 2] = (size / 256) as u8;
-    journal[at + 3] = (size % 256) as u8;
+    journal[at..at + 2].copy_from_slice(&(count as u16).to_be_bytes());
+    journal[at + 2..at + 4].copy_from_slice(&(size as u16).to_be_bytes());
 }

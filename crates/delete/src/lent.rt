@@ -5,12 +5,12 @@ ghost use Rattle.line.specs.Answer.{Wrote, map_done};
 ghost use Rattle.journal.specs.Encoding.{encode};
 ghost use Rattle.central.specs.Lent.{state_of};
 ghost use Rattle.delete.specs.Deletion.{DeletesIn, deleted, deleted_pager, is_open, rests_in_range};
-ghost use Rattle.delete.specs.Inner.{allowed, behind, deleted_chosen, length_behind};
+ghost use Rattle.delete.specs.Inner.{allowed, behind, deleted_chosen};
 
 use crate::choice::Choice;
 use crate::compaction::remove;
 use central::{Control, Moved, Stage};
-use line::{Refusal, Written};
+use line::Refusal;
 
 // Without the n-th record from the newest, which is 1, and the control over the shorter journal.
 pub fn delete(control: Control, journal: &mut [u8], n: usize) -> Moved
@@ -37,25 +37,24 @@ fn delete_chosen(control: Control, journal: &mut [u8], choice: Choice) -> Moved
 }
 
 // The journal's new length, or the refusal.
-fn test_and_remove(control: Control, journal: &mut [u8], choice: Choice) -> Written
+fn test_and_remove(control: Control, journal: &mut [u8], choice: Choice) -> Result<usize, Refusal>
     ensures { (array : List ℕ) →
         Wrote (map_done encode (deleted_chosen choice (state_of control array) journal.old))
         result journal.old journal.new }
 {
     if !rests_in_range(control) {
-        return Written::Refused(Refusal::Range);
+        return Err(Refusal::Range);
     }
     let allowed = allow(control, choice);
     remove(journal, control.journal, allowed)
 }
 
-// In an open call nothing is chosen: records are counted from 1.
+// In an open call nothing is chosen.
 fn allow(control: Control, choice: Choice) -> Choice
     ensures { result ≡ allowed control.stage choice }
 {
-    let stage = control.stage;
-    if is_open(stage) {
-        return Choice::Newest(0);
+    if is_open(control.stage) {
+        return Choice::Nothing;
     }
     choice
 }
@@ -64,48 +63,23 @@ fn allow(control: Control, choice: Choice) -> Choice
 fn rests_in_range(control: Control) -> bool
     ensures { result ≡ rests_in_range control.stage control.failures control.length }
 {
-    let stage = control.stage;
-    if is_open(stage) {
-        return true;
-    }
-    (control.failures == 0) & (control.length == 0)
+    is_open(control.stage) || control.failures == 0 && control.length == 0
 }
 
 // A call is open.
 fn is_open(stage: Stage) -> bool
     ensures { result ≡ is_open stage }
 {
-    match stage {
-        Stage::Idle => false,
-        Stage::Logon => true,
-        Stage::Block => true,
-        Stage::Closed => false,
-    }
+    matches!(stage, Stage::Logon | Stage::Block)
 }
 
 // The control over the journal of the new length; a refusal leaves it.
-fn over(control: Control, outcome: Written) -> Moved
+fn over(control: Control, outcome: Result<usize, Refusal>) -> Moved
     ensures { result ≡ behind control outcome }
 {
-    let stage = control.stage;
-    let journal = length_of(outcome, control.journal);
+    let journal = outcome.unwrap_or(control.journal);
     Moved {
         outcome,
-        control: Control {
-            stage,
-            failures: control.failures,
-            length: control.length,
-            journal,
-        },
-    }
-}
-
-// The new length, or the old one where the deletion is refused.
-fn length_of(outcome: Written, old: usize) -> usize
-    ensures { result ≡ length_behind outcome old }
-{
-    match outcome {
-        Written::Count(n) => n,
-        Written::Refused(_) => old,
+        control: Control { journal, ..control },
     }
 }

@@ -1,4 +1,5 @@
 -- A clean line with the right password: the device stops at the close alone, and that is answered with ESC EOT. So the final verdicts are the clean ones, with late too.
+use Rattle.std.specs.Prelude.{Some}
 use mathlib.Core.Bool.{Bool, true, false, false≢true}
 use mathlib.Core.List.{List, [], ◌++◌}
 use mathlib.Core.Path.{◌≡◌, refl, sym, subst, ap, ◌∙◌}
@@ -8,7 +9,6 @@ use lib.ListN.{length}
 use Rattle.line.proofs.OutcomeLaws.{choice}
 use Rattle.block.specs.Block.{Segment}
 use Rattle.reply.specs.declared.Meaning.TheVariants.{Ack, Rs, Eot}
-use Rattle.reply.specs.declared.Reply.TheVariants.{Recognized}
 use Rattle.central.specs.Reaction.{Answer, ack, rs, Central}
 use Rattle.device.specs.Reaction.{Move, blocks_in, first, gives, goes, moves, onwards, place, sends_next, string_text}
 use Rattle.device.proofs.SettlingLaws.{is-stopped}
@@ -42,7 +42,7 @@ Goes m = is_stopped m.next ≡ false
 
 -- one that, where it stops, reports ESC EOT
 abbrev Leaves : Move → Type 0
-Leaves m = is_stopped m.next ≡ true → m.report ≡ Reporting.Close (Recognized Eot)
+Leaves m = is_stopped m.next ≡ true → m.report ≡ Reporting.Close (Some Eot)
 
 -- a move that does not stop leaves nothing to ask
 goes_on_lem : (m : Move) → Goes m → Leaves m
@@ -53,13 +53,13 @@ onwards-goes : (job : List (List ℕ)) (t : ℕ) → is_stopped (onwards job t) 
 onwards-goes job t = choice (λ step. is_stopped step ≡ false) (ltb t (length job)) (λ _. refl) (λ _. refl)
 
 -- ACK to a block
-ack-goes : (settings : Settings) (job : List (List ℕ)) (p : Place) → Leaves (moves settings job (Sending p) (Recognized Ack))
+ack-goes : (settings : Settings) (job : List (List ℕ)) (p : Place) → Leaves (moves settings job (Sending p) (Some Ack))
 unfolding moves
 ack-goes settings job p =
     goes_on_lem (sends_next settings job p) (choice Goes (eqb (p.block + 1) (blocks_in settings job p.transaction)) (λ _. onwards-goes job (p.transaction + 1)) (λ _. refl))
 
 -- RS to a block
-rs-goes : (settings : Settings) (job : List (List ℕ)) (p : Place) → Leaves (moves settings job (Sending p) (Recognized Rs))
+rs-goes : (settings : Settings) (job : List (List ℕ)) (p : Place) → Leaves (moves settings job (Sending p) (Some Rs))
 unfolding moves
 rs-goes settings job p = goes_on_lem (gives p.transaction Rejected (onwards job (p.transaction + 1))) (onwards-goes job (p.transaction + 1))
 
@@ -133,7 +133,7 @@ module _ {J : Type 0} (i : Inputs J) (l : Legal i) (match : matching i ≡ true)
 
   -- a device that has stopped has reported ESC EOT
   abbrev Sure : Ends J → Type 0
-  Sure e = is_stopped e.step ≡ true → e.report ≡ Reporting.Close (Recognized Eot)
+  Sure e = is_stopped e.step ≡ true → e.report ≡ Reporting.Close (Some Eot)
 
   -- each exchange keeps it
   sure_exchange : {e : Ends J} {w : ModelEnds J} → SameEnds i l e w → Calm w → Sure e → Sure (exchange i clean e)
@@ -155,5 +155,5 @@ module _ {J : Type 0} (i : Inputs J) (l : Legal i) (match : matching i ≡ true)
       sure_after n (exchange-same i l clean (clean-fair-at i e) alike) (good-exchange (model i) i.job i.journal (Unit {0}) (model_laws i) (limits i) reached whole whole tt tt g) (sure_exchange alike g sure)
 
   -- the close confirms
-  pub clean-confirms : (final i []).report ≡ Reporting.Close (Recognized Eot)
+  pub clean-confirms : (final i []).report ≡ Reporting.Close (Some Eot)
   clean-confirms = sure_after (most_transmissions i) (ends same-opening both_idle) (is-opening at_idle) (λ h. absurd (false≢true h)) (rw (run-stops i l.job []))

@@ -1,5 +1,5 @@
 -- The device does what the model's device does: it stands at the same block of the same transaction, its verdicts are the model's, and so is each move.
-use Rattle.std.specs.Prelude.{if◌then◌else◌}
+use Rattle.std.specs.Prelude.{Some, None, if◌then◌else◌}
 use mathlib.Core.Bool.{true}
 use mathlib.Core.List.{List, [], ◌∷◌, ◌++◌}
 use mathlib.Core.Path.{◌≡◌, refl, sym, ◌∙◌}
@@ -17,8 +17,7 @@ use Rattle.block.specs.declared.frame.Ending.TheVariants.{Etx}
 use Rattle.journal.proofs.RecordLaws.{legal-at}
 use Rattle.journal.specs.Encoding.{all_legal}
 use Rattle.reply.specs.declared.Meaning.TheVariants.{IdRequest, Acceptance, Ack, Nak, Rs, Eot}
-use Rattle.reply.specs.declared.Reply.{Reply}
-use Rattle.reply.specs.declared.Reply.TheVariants.{Recognized, Unrecognized}
+use Rattle.reply.specs.Reading.{Reply}
 use Rattle.central.specs.Reaction.{Answer, nothing, idRequest, acceptance, ack, nak, rs, hangUp}
 use Rattle.device.proofs.SegmentsLaws.{segments_some, segments_right}
 use Rattle.device.specs.Reaction.{Move, goes, segments_of, moves, onwards, place}
@@ -36,13 +35,13 @@ use Rattle.demand.proofs.Tests.{branches}
 
 -- what the device reads an answer as
 abbrev pub read_as : Answer → Reply
-read_as nothing = Unrecognized
-read_as idRequest = Recognized IdRequest
-read_as acceptance = Recognized Acceptance
-read_as ack = Recognized Ack
-read_as nak = Recognized Nak
-read_as rs = Recognized Rs
-read_as hangUp = Recognized Eot
+read_as nothing = None
+read_as idRequest = Some IdRequest
+read_as acceptance = Some Acceptance
+read_as ack = Some Ack
+read_as nak = Some Nak
+read_as rs = Some Rs
+read_as hangUp = Some Eot
 
 -- the test of the attempts
 tries : (a most : ℕ) → ltb a (most + 1) ≡ leb a most
@@ -142,7 +141,7 @@ module _ {J : Type 0} (i : Inputs J) where
 
     -- the next block, or accepted
     acked-same : {n k : ℕ} (a : ℕ) {vs told : List Verdict} {t : List ℕ} {ts : List (List ℕ)} {b : Segment} (bs : List Segment) → Held n vs (t ∷ ts) told → CutAt t k b bs →
-        SameMove vs (moves i.device i.job (Sending (place n k a)) (Recognized Ack)) (acked (model i) bs (t ∷ ts) told)
+        SameMove vs (moves i.device i.job (Sending (place n k a)) (Some Ack)) (acked (model i) bs (t ∷ ts) told)
     unfolding acked moves
     acked-same {n} {k} a {t = t} {ts = ts} [] h x =
         rw (held_at h, eq-eqb (k + 1) (length (segments_of i.device t)) (omega (arith, cut-count x))) (begin-same ts (held_next Accepted h))

@@ -1,4 +1,5 @@
 -- The final verdicts: early or late the run is the same; nothing is given from the close on, so the provisional ones are those before it; settling leaves a verdict or puts it in doubt, so what is still decided is the clean one. On a clean line the close confirms.
+use Rattle.std.specs.Prelude.{None}
 use mathlib.Core.Bool.{Bool, true, false, false≢true}
 use mathlib.Core.List.{List, [], tail}
 use mathlib.Core.Path.{◌≡◌, refl, sym, ap, ◌∙◌}
@@ -9,7 +10,7 @@ use lib.Dec.{ltb}
 use lib.ListN.{length, get_or-map}
 use Rattle.line.proofs.OutcomeLaws.{choice}
 use Rattle.reply.specs.Reading.{reply_read}
-use Rattle.reply.specs.declared.Reply.{Reply}
+use Rattle.reply.specs.Reading.{Reply}
 use Rattle.device.proofs.BoundLaws.{blocks_alike}
 use Rattle.device.proofs.MoveLaws.{Leads, requested, reopens, unanswered, admitted, relogs, turned_away, accepted, continued, resends, exhausted, rejected, hung_up_lem, unconfirmed, recloses, reported, stays, moves_lead}
 use Rattle.device.proofs.SettlingLaws.{confirmed-stands, early_stands, moves-confirmed, moves-unreported, string-confirmed, unsent_settled}
@@ -18,7 +19,6 @@ use Rattle.device.specs.Settling.{doubted, is_stopped, settled, standing_at, wit
 use Rattle.device.specs.declared.settling.Standing.{Standing}
 use Rattle.device.specs.declared.state.Confirmation.{Confirmation}
 use Rattle.device.specs.declared.state.Confirmation.TheVariants.{Early}
-use Rattle.device.specs.declared.state.Given.TheVariants as Giving
 use Rattle.device.specs.declared.state.Report.{Report}
 use Rattle.device.specs.declared.state.Report.TheVariants as Reporting
 use Rattle.device.specs.declared.state.Settings.{Settings}
@@ -69,7 +69,7 @@ module _ {J : Type 0} (i : Inputs J) (c : Confirmation) where
 
 -- a move of a device that has sent its blocks gives nothing, and leaves it so
 leads_past : {settings : Settings} {ts : List (List ℕ)} {step : Step} {r : Reply} {m : Move} → Leads settings ts step r m → past_blocks step ≡ true →
-    (past_blocks m.next ≡ true) × (m.given ≡ Giving.Nothing)
+    (past_blocks m.next ≡ true) × (m.given ≡ None)
 leads_past requested e = absurd (false≢true e)
 leads_past (reopens _) e = absurd (false≢true e)
 leads_past unanswered e = absurd (false≢true e)

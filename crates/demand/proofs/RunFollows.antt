@@ -1,4 +1,5 @@
 -- A run does what the model's run does, where its list of damage is fair: whole strings are heard and read as meant, and other bytes are noise.
+use Rattle.std.specs.Prelude.{None}
 use mathlib.Core.Bool.{Bool, true, false, false≢true, and-eq-true_iff}
 use mathlib.Core.List.{List, [], ◌∷◌, map}
 use mathlib.Core.Logic.{inl, inr}
@@ -16,7 +17,6 @@ use Rattle.line.specs.Test.{all, same}
 use Rattle.block.specs.Block.{Segment, read_block}
 use Rattle.reply.proofs.GrammarLaws.{empty-unrecognized, written_read}
 use Rattle.reply.specs.Reading.{reply_read}
-use Rattle.reply.specs.declared.Reply.TheVariants.{Unrecognized}
 use Rattle.line.proofs.OutcomeLaws.{choice}
 use Rattle.central.proofs.HearingLaws.{heard-empty, sent-heard}
 use Rattle.central.specs.Hearing.{Heard, logs_on, heard_block, recognized, heard_text, heard}
@@ -126,12 +126,12 @@ hit-whole [] = refl
 hit-whole (b ∷ bs) = refl
 
 -- where nothing arrives nothing is read
-lost_unrecognized : (bytes : List ℕ) → reply_read (hit Run.nothing bytes) ≡ Unrecognized
+lost_unrecognized : (bytes : List ℕ) → reply_read (hit Run.nothing bytes) ≡ None
 lost_unrecognized [] = empty-unrecognized
 lost_unrecognized (b ∷ bs) = empty-unrecognized
 
 -- nor is other bytes
-other-unrecognized : (others bytes : List ℕ) → Replaced NoReply (Run.other others) bytes → reply_read (hit (Run.other others) bytes) ≡ Unrecognized
+other-unrecognized : (others bytes : List ℕ) → Replaced NoReply (Run.other others) bytes → reply_read (hit (Run.other others) bytes) ≡ None
 other-unrecognized others [] fair = empty-unrecognized
 other-unrecognized others (b ∷ bs) fair = fair
 

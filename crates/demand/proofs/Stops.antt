@@ -7,7 +7,7 @@ use Prim.Native.Nat.{ℕ, zero, suc, ◌≤◌, ◌<◌}
 use native.Mathlib.Omega.{arith}
 use Rattle.journal.specs.Encoding.{all_legal}
 use Rattle.reply.specs.Reading.{reply_read}
-use Rattle.reply.specs.declared.Reply.{Reply}
+use Rattle.reply.specs.Reading.{Reply}
 use Rattle.device.proofs.BoundLaws.{moves_fall, transmissions_bound}
 use Rattle.device.proofs.DeviceLaws.{Within, moves-within}
 use Rattle.device.specs.Bound.{transmissions_left}

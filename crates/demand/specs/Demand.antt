@@ -1,5 +1,5 @@
 -- Demand 3, one claim about every list of damage and the run it makes.
-use Rattle.std.specs.Prelude.{Bool, true, false, ◌⊎◌, ◌≡◌, ℕ, zero, suc, ◌+◌, ◌<◌, ◌≤◌, length, take, get_or, if◌then◌else◌}
+use Rattle.std.specs.Prelude.{Bool, true, false, ◌⊎◌, ◌≡◌, None, ℕ, zero, suc, ◌+◌, ◌<◌, ◌≤◌, length, take, get_or, if◌then◌else◌}
 use mathlib.Core.List.{List, [], ◌∷◌, tail}
 use Rattle.line.specs.Password.{password_in_range}
 use Rattle.journal.specs.Encoding.{all_legal}
@@ -11,7 +11,6 @@ use Rattle.device.specs.declared.state.Step.TheVariants.{Stopped}
 use Rattle.device.specs.declared.state.Verdict.{Verdict}
 use Rattle.device.specs.declared.state.Verdict.TheVariants.{Accepted, Rejected, Unconfirmed, Deferred, Unsent, InDoubt}
 use Rattle.reply.specs.Reading.{reply_read}
-use Rattle.reply.specs.declared.Reply.TheVariants.{Unrecognized}
 use Rattle.demand.specs.Clean.{clean_verdicts, clean_journal}
 use Rattle.demand.specs.Faults.{faulted}
 use Rattle.demand.specs.Run.{Damage, whole, nothing, other, Transit, Damages, next, Inputs, Ends, start, string, answer, exchange, most_transmissions, final, run}
@@ -39,7 +38,7 @@ Unheard stage bytes = (heard stage bytes ≡ noise) ⊎ (heard stage bytes ≡ s
 
 -- these bytes are no reply: neither does the device (R-10.5)
 abbrev pub NoReply : List ℕ → Type 0
-NoReply bytes = reply_read bytes ≡ Unrecognized
+NoReply bytes = reply_read bytes ≡ None
 
 -- in one transmission, the end that gets other bytes recognizes nothing in them (R-10.5)
 pub record FairAt {J : Type 0} (i : Inputs J) (d : Transit) (e : Ends J) : Type 0 where

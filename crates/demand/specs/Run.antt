@@ -1,14 +1,13 @@
 -- The run of both ends over a line that may damage what it carries (document 01, "The run"): over the steps' own
 -- definitions, byte for byte, whatever the central's journal is made of.
 use mathlib.Core.List.{List, [], ◌∷◌, tail}
-use Rattle.std.specs.Prelude.{ℕ, zero, suc, ◌+◌, ◌*◌, length, set, replicate}
+use Rattle.std.specs.Prelude.{Option, Some, None, ℕ, zero, suc, ◌+◌, ◌*◌, length, set, replicate}
 use Rattle.central.specs.Hearing.{heard}
 use Rattle.central.specs.Reaction.{Rules, Central, Reaction, at, reacts, answer_bytes}
 use Rattle.central.specs.declared.state.Stage.TheVariants.{Idle}
 use Rattle.device.specs.Bound.{job_blocks}
 use Rattle.device.specs.Reaction.{Move, first, moves, bytes_of_string}
 use Rattle.device.specs.declared.state.Given.{Given}
-use Rattle.device.specs.declared.state.Given.TheVariants as Giving
 use Rattle.device.specs.declared.state.Report.{Report}
 use Rattle.device.specs.declared.state.Report.TheVariants as Reporting
 use Rattle.device.specs.declared.state.Settings.{Settings}
@@ -66,9 +65,9 @@ pub record Ends (J : Type 0) : Type 0 where
   pub transmissions : ℕ
 
 -- a verdict that is given is put in its place (R-10.2)
-abbrev pub noted : Given → List Verdict → List Verdict
-noted (Giving.Verdict t v) vs = set vs t v
-noted Giving.Nothing vs = vs
+abbrev pub noted : Option Given → List Verdict → List Verdict
+noted (Some given) vs = set vs given.transaction given.verdict
+noted None vs = vs
 
 -- what is reported stays reported (R-10.2)
 abbrev pub reported : Report → Report → Report

@@ -14,7 +14,7 @@ use lib.Seq.{drop-cons}
 use Rattle.line.proofs.OutcomeLaws.{choice}
 use Rattle.journal.specs.Encoding.{all_legal}
 use Rattle.segmentation.specs.Segmentation.{segmentation_by}
-use Rattle.reply.specs.declared.Reply.{Reply}
+use Rattle.reply.specs.Reading.{Reply}
 use Rattle.device.specs.Bound.{job_blocks, blocks_behind, left_of, transmissions_left}
 use Rattle.device.specs.Reaction.{blocks_in, first, moves, onwards, place, segments_of, Move}
 use Rattle.device.specs.Step.{exists}

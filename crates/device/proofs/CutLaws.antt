@@ -1,7 +1,7 @@
 -- What the way can cut of a job: each of its transactions, in whatever order they are met on the walk back.
+use Rattle.std.specs.Prelude.{None, Some}
 use mathlib.Core.Bool.{Bool, true, ◌&&◌, and_assoc, and_comm, and-true, and-eq-true_iff}
 use mathlib.Core.List.{List, [], ◌∷◌, ◌++◌, reverse, reverse-cons}
-use mathlib.Core.Option.{none, some}
 use mathlib.Core.Path.{◌≡◌, refl, sym}
 use Prim.Native.Nat.{ℕ, zero, suc, ◌≤◌, ◌<◌}
 use native.Mathlib.Nat.{le_of_suc-le-suc, not-suc-le-zero}
@@ -66,7 +66,7 @@ module _ (way : Way) where
 
   module _ (b : List ℕ) (p : Position) (every : Bool) (inside : p.end ≤ length b) where
     -- one more is met
-    pub cuts_met : (q : Place) → step_from b p ≡ done (some q) → cuts_on every (walk_from b p) ≡ cuts_on (every && cuttable way (transaction_at b q)) (walk_from b q.next)
+    pub cuts_met : (q : Place) → step_from b p ≡ done (Some q) → cuts_on every (walk_from b p) ≡ cuts_on (every && cuttable way (transaction_at b q)) (walk_from b q.next)
     unfolding cuts_all
     cuts_met q e = rw (walk_from_lem b p inside, e) (go (walk_from b q.next))
       where
@@ -75,7 +75,7 @@ module _ (way : Way) where
         go (refused k) = refl
 
     -- all are met
-    pub cuts_end : step_from b p ≡ done none → cuts_on every (walk_from b p) ≡ every
+    pub cuts_end : step_from b p ≡ done None → cuts_on every (walk_from b p) ≡ every
     unfolding cuts_all
     cuts_end e = rw (walk_from_lem b p inside, e, and-true)
 

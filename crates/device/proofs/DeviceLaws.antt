@@ -1,8 +1,9 @@
 -- The device's steps: a step that is not refused leaves a state in range, an unread block is never sent again, and which replies a verdict comes from.
+use Rattle.std.specs.Prelude.{Option, Some, None}
 use mathlib.Core.Bool.{true, false≢true}
 use mathlib.Core.List.{List}
 use mathlib.Core.Logic.{◌⊎◌, inl, inr}
-use mathlib.Core.Path.{◌≡◌, refl}
+use mathlib.Core.Path.{◌≡◌, refl, ap}
 use Prim.Native.Nat.{ℕ, ◌+◌, ◌≤◌}
 use borrow.Author.Tests.{eqb-true, ltb-false}
 use Rattle.line.specs.Answer.{done}
@@ -10,14 +11,11 @@ use Rattle.line.proofs.OutcomeLaws.{map-done}
 use Rattle.journal.specs.Encoding.{all_legal}
 use Rattle.journal.specs.Walk.{decode}
 use Rattle.journal.proofs.EncodingLaws.{decode-legal}
-use Rattle.reply.specs.Reading.{reply_read}
+use Rattle.reply.specs.Reading.{reply_read, Reply}
 use Rattle.reply.specs.declared.Meaning.TheVariants.{Ack, Nak, Rs, Eot}
-use Rattle.reply.specs.declared.Reply.{Reply}
-use Rattle.reply.specs.declared.Reply.TheVariants.{Recognized}
-use Rattle.device.specs.Reaction.{block_reply, blocks_in, gives, moves, Move}
+use Rattle.device.specs.Reaction.{block_reply, blocks_in, given, gives, moves, Move}
 use Rattle.device.specs.Step.{exists, Sent, started, step_in_range, stepped, tested}
-use Rattle.device.specs.declared.reaction.BlockReply.TheVariants as Block
-use Rattle.device.specs.declared.state.Given.TheVariants as Giving
+use Rattle.device.specs.declared.state.Given.{Given}
 use Rattle.device.specs.declared.state.Place.{Place}
 use Rattle.device.specs.declared.state.Settings.{Settings}
 use Rattle.device.specs.declared.state.State.{State}
@@ -62,7 +60,7 @@ start_in_range settings job room x h =
 -- ── What is read ──
 
 -- an unread block is never sent again
-pub unread_stops : (settings : Settings) (ts : List (List ℕ)) (p : Place) (r : Reply) → block_reply r ≡ Block.Unrecognized →
+pub unread_stops : (settings : Settings) (ts : List (List ℕ)) (p : Place) (r : Reply) → block_reply r ≡ None →
     moves settings ts (Sending p) r ≡ gives p.transaction Unconfirmed Stopped
 unfolding moves
 unread_stops settings ts p r e = rw e
@@ -71,10 +69,10 @@ unread_stops settings ts p r e = rw e
 
 -- the reply to a block for which the block's transaction gets this verdict
 abbrev pub Decides : Settings → List (List ℕ) → Place → Reply → Verdict → Type 0
-Decides settings ts p r Accepted = (r ≡ Recognized Ack) × (p.block + 1 ≡ blocks_in settings ts p.transaction)
-Decides settings ts p r Rejected = r ≡ Recognized Rs
-Decides settings ts p r Unconfirmed = block_reply r ≡ Block.Unrecognized
-Decides settings ts p r Deferred = ((r ≡ Recognized Nak) × (settings.retries + 1 ≤ p.attempts)) ⊎ (r ≡ Recognized Eot)
+Decides settings ts p r Accepted = (r ≡ Some Ack) × (p.block + 1 ≡ blocks_in settings ts p.transaction)
+Decides settings ts p r Rejected = r ≡ Some Rs
+Decides settings ts p r Unconfirmed = block_reply r ≡ None
+Decides settings ts p r Deferred = ((r ≡ Some Nak) × (settings.retries + 1 ≤ p.attempts)) ⊎ (r ≡ Some Eot)
 Decides settings ts p r Unsent = ⊥
 Decides settings ts p r InDoubt = ⊥
 
@@ -85,34 +83,35 @@ module _ (settings : Settings) (ts : List (List ℕ)) (t : ℕ) (v : Verdict) wh
   From step r = (p : Place) × (step ≡ Sending p) × (p.transaction ≡ t) × Decides settings ts p r v
 
   -- it is the one that is given
-  judged : (p : Place) (r : Reply) (u : Verdict) → Decides settings ts p r u → Giving.Verdict p.transaction u ≡ Giving.Verdict t v → From (Sending p) r
+  judged : (p : Place) (r : Reply) (u : Verdict) → Decides settings ts p r u → ◌≡◌ {A = Option Given} (Some (given p.transaction u)) (Some (given t v)) → From (Sending p) r
   judged p r u d e =
-      let same : u ≡ v = cc in
-      (p, refl, cc, rw same at d)
+      let one : given p.transaction u ≡ given t v = cc in
+      let same : u ≡ v = ap (λ g. g.verdict) one in
+      (p, refl, ap (λ g. g.transaction) one, rw same at d)
 
   -- nothing is given
-  quiet : {A : Type 0} → Giving.Nothing ≡ Giving.Verdict t v → A
+  quiet : {A : Type 0} → ◌≡◌ {A = Option Given} None (Some (given t v)) → A
   quiet e = absurd (false≢true cc)
 
   -- each move gives it for its reason
-  leads-decided : {step : Step} {r : Reply} {m : Move} → Leads settings ts step r m → m.given ≡ Giving.Verdict t v → From step r
+  leads-decided : {step : Step} {r : Reply} {m : Move} → Leads settings ts step r m → m.given ≡ Some (given t v) → From step r
   leads-decided requested e = quiet e
   leads-decided (reopens _) e = quiet e
   leads-decided unanswered e = quiet e
   leads-decided admitted e = quiet e
   leads-decided (relogs _) e = quiet e
   leads-decided turned_away e = quiet e
-  leads-decided (accepted {p} l) e = judged p (Recognized Ack) Accepted (refl, eqb-true _ _ l) e
+  leads-decided (accepted {p} l) e = judged p (Some Ack) Accepted (refl, eqb-true _ _ l) e
   leads-decided (continued _) e = quiet e
   leads-decided (resends _) e = quiet e
-  leads-decided (exhausted {p} l) e = judged p (Recognized Nak) Deferred (inl (refl, ltb-false _ _ l)) e
-  leads-decided (rejected {p}) e = judged p (Recognized Rs) Rejected refl e
-  leads-decided (hung_up_lem {p}) e = judged p (Recognized Eot) Deferred (inr refl) e
+  leads-decided (exhausted {p} l) e = judged p (Some Nak) Deferred (inl (refl, ltb-false _ _ l)) e
+  leads-decided (rejected {p}) e = judged p (Some Rs) Rejected refl e
+  leads-decided (hung_up_lem {p}) e = judged p (Some Eot) Deferred (inr refl) e
   leads-decided (unconfirmed {p} {r} u) e = judged p r Unconfirmed u e
   leads-decided (recloses _) e = quiet e
   leads-decided reported e = quiet e
   leads-decided stays e = quiet e
 
   -- so does the move of every reply
-  pub gives-decided : (step : Step) (r : Reply) → (moves settings ts step r).given ≡ Giving.Verdict t v → From step r
+  pub gives-decided : (step : Step) (r : Reply) → (moves settings ts step r).given ≡ Some (given t v) → From step r
   gives-decided step r e = leads-decided (moves_lead settings ts step r) e

@@ -1,4 +1,5 @@
 -- The moves as a relation: which move each reply leads to from each step. A law of all moves goes by these cases.
+use Rattle.std.specs.Prelude.{Some, None}
 use mathlib.Core.Bool.{true, false}
 use mathlib.Core.List.{List}
 use mathlib.Core.Path.{◌≡◌, refl}
@@ -6,10 +7,8 @@ use Prim.Native.Nat.{ℕ, ◌+◌}
 use lib.Dec.{ltb, eqb}
 use Rattle.line.proofs.OutcomeLaws.{choice}
 use Rattle.reply.specs.declared.Meaning.TheVariants.{IdRequest, Acceptance, Ack, Nak, Rs, Eot}
-use Rattle.reply.specs.declared.Reply.{Reply}
-use Rattle.reply.specs.declared.Reply.TheVariants.{Recognized, Unrecognized}
+use Rattle.reply.specs.Reading.{Reply}
 use Rattle.device.specs.Reaction.{Move, again, block_reply, blocks_in, closes, first, gives, goes, logs_on, logs_on_again, may_repeat, moves, onwards, opens, opens_again, place, reports, sends}
-use Rattle.device.specs.declared.reaction.BlockReply.TheVariants as Block
 use Rattle.device.specs.declared.state.Place.{Place}
 use Rattle.device.specs.declared.state.Settings.{Settings}
 use Rattle.device.specs.declared.state.Step.{Step}
@@ -19,22 +18,22 @@ use Rattle.device.specs.declared.state.Verdict.TheVariants.{Accepted, Rejected, 
 module _ (settings : Settings) (job : List (List ℕ)) where
   -- a step, a reply to it, and the move
   pub data Leads : Step → Reply → Move → Type 0 where
-    requested : {p : Place} → Leads (Opening p) (Recognized IdRequest) (goes (Logon first))
+    requested : {p : Place} → Leads (Opening p) (Some IdRequest) (goes (Logon first))
     reopens : {p : Place} {r : Reply} → ltb p.attempts 3 ≡ true → Leads (Opening p) r (goes (Opening (again p)))
     unanswered : {p : Place} {r : Reply} → Leads (Opening p) r (goes Stopped)
-    admitted : {p : Place} → Leads (Logon p) (Recognized Acceptance) (goes (onwards job 0))
+    admitted : {p : Place} → Leads (Logon p) (Some Acceptance) (goes (onwards job 0))
     relogs : {p : Place} {r : Reply} → may_repeat settings p ≡ true → Leads (Logon p) r (goes (Logon (again p)))
     turned_away : {p : Place} {r : Reply} → Leads (Logon p) r (goes Stopped)
     accepted : {p : Place} → eqb (p.block + 1) (blocks_in settings job p.transaction) ≡ true →
-        Leads (Sending p) (Recognized Ack) (gives p.transaction Accepted (onwards job (p.transaction + 1)))
+        Leads (Sending p) (Some Ack) (gives p.transaction Accepted (onwards job (p.transaction + 1)))
     continued : {p : Place} → eqb (p.block + 1) (blocks_in settings job p.transaction) ≡ false →
-        Leads (Sending p) (Recognized Ack) (goes (Sending (place p.transaction (p.block + 1) 1)))
-    resends : {p : Place} → may_repeat settings p ≡ true → Leads (Sending p) (Recognized Nak) (goes (Sending (again p)))
-    exhausted : {p : Place} → may_repeat settings p ≡ false → Leads (Sending p) (Recognized Nak) (gives p.transaction Deferred Stopped)
-    rejected : {p : Place} → Leads (Sending p) (Recognized Rs) (gives p.transaction Rejected (onwards job (p.transaction + 1)))
-    hung_up_lem : {p : Place} → Leads (Sending p) (Recognized Eot) (gives p.transaction Deferred Stopped)
-    unconfirmed : {p : Place} {r : Reply} → block_reply r ≡ Block.Unrecognized → Leads (Sending p) r (gives p.transaction Unconfirmed Stopped)
-    recloses : {p : Place} → may_repeat settings p ≡ true → Leads (Closing p) (Recognized Nak) (goes (Closing (again p)))
+        Leads (Sending p) (Some Ack) (goes (Sending (place p.transaction (p.block + 1) 1)))
+    resends : {p : Place} → may_repeat settings p ≡ true → Leads (Sending p) (Some Nak) (goes (Sending (again p)))
+    exhausted : {p : Place} → may_repeat settings p ≡ false → Leads (Sending p) (Some Nak) (gives p.transaction Deferred Stopped)
+    rejected : {p : Place} → Leads (Sending p) (Some Rs) (gives p.transaction Rejected (onwards job (p.transaction + 1)))
+    hung_up_lem : {p : Place} → Leads (Sending p) (Some Eot) (gives p.transaction Deferred Stopped)
+    unconfirmed : {p : Place} {r : Reply} → block_reply r ≡ None → Leads (Sending p) r (gives p.transaction Unconfirmed Stopped)
+    recloses : {p : Place} → may_repeat settings p ≡ true → Leads (Closing p) (Some Nak) (goes (Closing (again p)))
     reported : {p : Place} {r : Reply} → Leads (Closing p) r (reports r)
     stays : {r : Reply} → Leads Stopped r (goes Stopped)
 
@@ -43,45 +42,45 @@ module _ (settings : Settings) (job : List (List ℕ)) where
   opens-again-leads p r = choice (Leads (Opening p) r) (ltb p.attempts 3) (λ e. reopens e) (λ e. unanswered)
 
   opens-leads : (p : Place) (r : Reply) → Leads (Opening p) r (opens p r)
-  opens-leads p (Recognized IdRequest) = requested
-  opens-leads p (Recognized Acceptance) = opens-again-leads p (Recognized Acceptance)
-  opens-leads p (Recognized Ack) = opens-again-leads p (Recognized Ack)
-  opens-leads p (Recognized Nak) = opens-again-leads p (Recognized Nak)
-  opens-leads p (Recognized Rs) = opens-again-leads p (Recognized Rs)
-  opens-leads p (Recognized Eot) = opens-again-leads p (Recognized Eot)
-  opens-leads p Unrecognized = opens-again-leads p Unrecognized
+  opens-leads p (Some IdRequest) = requested
+  opens-leads p (Some Acceptance) = opens-again-leads p (Some Acceptance)
+  opens-leads p (Some Ack) = opens-again-leads p (Some Ack)
+  opens-leads p (Some Nak) = opens-again-leads p (Some Nak)
+  opens-leads p (Some Rs) = opens-again-leads p (Some Rs)
+  opens-leads p (Some Eot) = opens-again-leads p (Some Eot)
+  opens-leads p None = opens-again-leads p None
 
   -- the logon again, or no more
   logs_on-again-leads : (p : Place) (r : Reply) → Leads (Logon p) r (logs_on_again settings p)
   logs_on-again-leads p r = choice (Leads (Logon p) r) (may_repeat settings p) (λ e. relogs e) (λ e. turned_away)
 
   logs_on-leads : (p : Place) (r : Reply) → Leads (Logon p) r (logs_on settings job p r)
-  logs_on-leads p (Recognized Nak) = logs_on-again-leads p (Recognized Nak)
-  logs_on-leads p (Recognized IdRequest) = logs_on-again-leads p (Recognized IdRequest)
-  logs_on-leads p (Recognized Acceptance) = admitted
-  logs_on-leads p (Recognized Ack) = turned_away
-  logs_on-leads p (Recognized Rs) = turned_away
-  logs_on-leads p (Recognized Eot) = turned_away
-  logs_on-leads p Unrecognized = turned_away
+  logs_on-leads p (Some Nak) = logs_on-again-leads p (Some Nak)
+  logs_on-leads p (Some IdRequest) = logs_on-again-leads p (Some IdRequest)
+  logs_on-leads p (Some Acceptance) = admitted
+  logs_on-leads p (Some Ack) = turned_away
+  logs_on-leads p (Some Rs) = turned_away
+  logs_on-leads p (Some Eot) = turned_away
+  logs_on-leads p None = turned_away
 
   sends-leads : (p : Place) (r : Reply) → Leads (Sending p) r (sends settings job p r)
-  sends-leads p (Recognized Ack) =
-      choice (Leads (Sending p) (Recognized Ack)) (eqb (p.block + 1) (blocks_in settings job p.transaction)) (λ e. accepted e) (λ e. continued e)
-  sends-leads p (Recognized Nak) = choice (Leads (Sending p) (Recognized Nak)) (may_repeat settings p) (λ e. resends e) (λ e. exhausted e)
-  sends-leads p (Recognized Rs) = rejected
-  sends-leads p (Recognized Eot) = hung_up_lem
-  sends-leads p (Recognized IdRequest) = unconfirmed refl
-  sends-leads p (Recognized Acceptance) = unconfirmed refl
-  sends-leads p Unrecognized = unconfirmed refl
+  sends-leads p (Some Ack) =
+      choice (Leads (Sending p) (Some Ack)) (eqb (p.block + 1) (blocks_in settings job p.transaction)) (λ e. accepted e) (λ e. continued e)
+  sends-leads p (Some Nak) = choice (Leads (Sending p) (Some Nak)) (may_repeat settings p) (λ e. resends e) (λ e. exhausted e)
+  sends-leads p (Some Rs) = rejected
+  sends-leads p (Some Eot) = hung_up_lem
+  sends-leads p (Some IdRequest) = unconfirmed refl
+  sends-leads p (Some Acceptance) = unconfirmed refl
+  sends-leads p None = unconfirmed refl
 
   closes-leads : (p : Place) (r : Reply) → Leads (Closing p) r (closes settings p r)
-  closes-leads p (Recognized Nak) = choice (Leads (Closing p) (Recognized Nak)) (may_repeat settings p) (λ e. recloses e) (λ e. reported)
-  closes-leads p (Recognized IdRequest) = reported
-  closes-leads p (Recognized Acceptance) = reported
-  closes-leads p (Recognized Ack) = reported
-  closes-leads p (Recognized Rs) = reported
-  closes-leads p (Recognized Eot) = reported
-  closes-leads p Unrecognized = reported
+  closes-leads p (Some Nak) = choice (Leads (Closing p) (Some Nak)) (may_repeat settings p) (λ e. recloses e) (λ e. reported)
+  closes-leads p (Some IdRequest) = reported
+  closes-leads p (Some Acceptance) = reported
+  closes-leads p (Some Ack) = reported
+  closes-leads p (Some Rs) = reported
+  closes-leads p (Some Eot) = reported
+  closes-leads p None = reported
 
   -- every move is one of these
   pub moves_lead : (step : Step) (r : Reply) → Leads step r (moves settings job step r)

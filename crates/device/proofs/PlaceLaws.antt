@@ -9,7 +9,7 @@ use lib.Dec.{ltb, eqb}
 use lib.ListN.{length}
 use Rattle.line.proofs.OutcomeLaws.{choice}
 use Rattle.journal.specs.Encoding.{all_legal}
-use Rattle.reply.specs.declared.Reply.{Reply}
+use Rattle.reply.specs.Reading.{Reply}
 use Rattle.device.specs.Reaction.{Move, blocks_in, onwards, moves}
 use Rattle.device.specs.Step.{exists, somewhere}
 use Rattle.device.specs.declared.state.Place.{Place}

@@ -8,7 +8,7 @@ use borrow.Author.Tests.{le-leb, le-ltb, lt-ltb, leb-true, leb-false, ltb-true}
 use lib.Dec.{leb, ltb}
 use lib.ListN.{length}
 use Rattle.line.proofs.OutcomeLaws.{choice}
-use Rattle.reply.specs.declared.Reply.{Reply}
+use Rattle.reply.specs.Reading.{Reply}
 use Rattle.device.specs.Reaction.{Move, again, onwards, moves}
 use Rattle.device.specs.Step.{attempts_in_range, step_in_range}
 use Rattle.device.specs.declared.state.Place.{Place}

@@ -1,12 +1,12 @@
 -- Laws of early and late: that moves and strings are the same, that a move reports only where it stops, and what settling changes.
+use Rattle.std.specs.Prelude.{None, Some}
 use mathlib.Core.Bool.{true, false, false≢true}
 use mathlib.Core.List.{List, [], ◌∷◌, map}
 use mathlib.Core.Path.{◌≡◌, refl, sym}
 use Prim.Native.Nat.{ℕ, zero, suc}
 use lib.ListN.{length, replicate, length-map}
 use Rattle.reply.specs.declared.Meaning.TheVariants.{IdRequest, Acceptance, Ack, Nak, Rs, Eot}
-use Rattle.reply.specs.declared.Reply.{Reply}
-use Rattle.reply.specs.declared.Reply.TheVariants.{Recognized, Unrecognized}
+use Rattle.reply.specs.Reading.{Reply}
 use Rattle.device.specs.Reaction.{Move, moves, segments_of, bytes_of_string, verdict_number}
 use Rattle.device.specs.Settling.{with_confirmation, is_stopped, standing_at, doubted, doubted_number, settled, settled_numbers}
 use Rattle.device.specs.declared.settling.Standing.{Standing}
@@ -25,14 +25,14 @@ use Rattle.device.proofs.MoveLaws.{Leads, requested, reopens, unanswered, admitt
 -- ── Early or late ──
 
 -- what holds of each reply
-each-reply : (P : Reply → Type 0) → P (Recognized IdRequest) → P (Recognized Acceptance) → P (Recognized Ack) → P (Recognized Nak) → P (Recognized Rs) → P (Recognized Eot) → P Unrecognized → (r : Reply) → P r
-each-reply P a b c d e f g (Recognized IdRequest) = a
-each-reply P a b c d e f g (Recognized Acceptance) = b
-each-reply P a b c d e f g (Recognized Ack) = c
-each-reply P a b c d e f g (Recognized Nak) = d
-each-reply P a b c d e f g (Recognized Rs) = e
-each-reply P a b c d e f g (Recognized Eot) = f
-each-reply P a b c d e f g Unrecognized = g
+each-reply : (P : Reply → Type 0) → P (Some IdRequest) → P (Some Acceptance) → P (Some Ack) → P (Some Nak) → P (Some Rs) → P (Some Eot) → P None → (r : Reply) → P r
+each-reply P a b c d e f g (Some IdRequest) = a
+each-reply P a b c d e f g (Some Acceptance) = b
+each-reply P a b c d e f g (Some Ack) = c
+each-reply P a b c d e f g (Some Nak) = d
+each-reply P a b c d e f g (Some Rs) = e
+each-reply P a b c d e f g (Some Eot) = f
+each-reply P a b c d e f g None = g
 
 -- settings that differ in that alone
 module _ (settings : Settings) (c : Confirmation) (ts : List (List ℕ)) where
@@ -100,7 +100,7 @@ early_stands (Closing p) report vs = refl
 early_stands Stopped report vs = refl
 
 -- after ESC EOT to the close neither does a late one
-pub confirmed-stands : (confirmation : Confirmation) (vs : List Verdict) → settled (standing_at confirmation Stopped (Reporting.Close (Recognized Eot))) vs ≡ vs
+pub confirmed-stands : (confirmation : Confirmation) (vs : List Verdict) → settled (standing_at confirmation Stopped (Reporting.Close (Some Eot))) vs ≡ vs
 confirmed-stands Early vs = refl
 confirmed-stands Late vs = refl
 

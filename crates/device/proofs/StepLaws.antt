@@ -1,26 +1,21 @@
 -- The answers of a step and of a start: the tests that both pass through, and what is owed of each outcome.
-use Rattle.std.specs.Prelude.{if◌then◌else◌}
+use Rattle.std.specs.Prelude.{None, Ok, Err, Option, Result, if◌then◌else◌}
 use mathlib.Core.Bool.{true, false, not, ◌&&◌, and-eq-true_iff}
 use mathlib.Core.List.{List}
 use mathlib.Core.Path.{◌≡◌, refl, sym, subst, ap, ◌∙◌}
 use Prim.Native.Nat.{ℕ, ◌≤◌}
 use borrow.Author.Tests.{le-ltb, leb-true, ltb-false, not-false}
 use lib.Dec.{leb, ltb}
-use Rattle.line.specs.Answer.{Outcome, done, refused, refusal_number, map_done, and_then, written_as, Laid}
+use Rattle.line.specs.Answer.{Outcome, done, refused, refusal_number, map_done, and_then, outcome_of, Laid}
 use Rattle.line.specs.Password.{password_in_range}
 use Rattle.line.specs.declared.answer.Refusal.{Refusal}
-use Rattle.line.specs.declared.answer.Written.{Written}
-use Rattle.line.specs.declared.answer.Written.TheVariants.{Count}
 use Rattle.line.proofs.OutcomeLaws.{then_done, map-done, map-refused, passed}
 use Rattle.line.proofs.OverlayLaws.{overlay-none}
-use Rattle.journal.specs.Survey.{survey_of, surveyed_as}
+use Rattle.journal.specs.Survey.{survey_of}
 use Rattle.journal.specs.Walk.{decode}
 use Rattle.journal.specs.declared.record.Located.{Located}
-use Rattle.journal.specs.declared.record.Surveyed.{Surveyed}
-use Rattle.journal.specs.declared.record.Surveyed.TheVariants.{Found, Refused}
 use Rattle.reply.specs.Reading.{reply_read}
 use Rattle.reply.specs.declared.remarks.Remarks.{Remarks}
-use Rattle.reply.specs.declared.remarks.Remarks.TheVariants.{Nothing}
 use Rattle.device.specs.Inner.{transaction_of}
 use Rattle.device.specs.Reaction.{Move, goes, first, moves}
 use Rattle.device.specs.Step.{settings_in_range, step_in_range, cuts_all, exists, Sent, sent, tested, stepped, started, standing_of, answered, StepsShowing}
@@ -35,8 +30,8 @@ use Rattle.device.specs.declared.state.Stepped.{Stepped}
 -- ── What is owed ──
 
 -- a refusal leaves state and memory
-pub steps-refused : {o : Outcome Sent} {remarks : Remarks} {r : Stepped} (w : Written) (step : Step) (n : ℕ) (out : List ℕ) →
-    o ≡ refused n → written_as w ≡ refused n → r ≡ answered w Open Nothing (goes step) → StepsShowing o step remarks r out out
+pub steps-refused : {o : Outcome Sent} {remarks : Option Remarks} {r : Stepped} (w : Result ℕ Refusal) (step : Step) (n : ℕ) (out : List ℕ) →
+    o ≡ refused n → outcome_of w ≡ refused n → r ≡ answered w Open None (goes step) → StepsShowing o step remarks r out out
 steps-refused w step n out e a q =
     rw (q, e) (record {
       steps = record { answers = a; state = refl; gave = refl; numbers = refl; reports = refl; stands = refl; leaves = overlay-none out };
@@ -44,8 +39,8 @@ steps-refused w step n out e a q =
     })
 
 -- a move is answered with the count of the string that was put out
-pub steps-done : {o : Outcome Sent} {remarks : Remarks} {r : Stepped} {standing : Standing} (x : Sent) (step : Step) (n : ℕ) (out after : List ℕ) →
-    o ≡ done x → Laid x.string n out after → standing ≡ standing_of step (done x) → r ≡ answered (Count n) standing remarks x.move → StepsShowing o step remarks r out after
+pub steps-done : {o : Outcome Sent} {remarks : Option Remarks} {r : Stepped} {standing : Standing} (x : Sent) (step : Step) (n : ℕ) (out after : List ℕ) →
+    o ≡ done x → Laid x.string n out after → standing ≡ standing_of step (done x) → r ≡ answered (Ok n) standing remarks x.move → StepsShowing o step remarks r out after
 steps-done x step n out after e d s q =
     let counts = d.counts in
     rw (q, e) (record {
@@ -54,7 +49,7 @@ steps-done x step n out after e d s q =
     })
 
 -- a move that was sent is what the outcome asks
-pub steps-sent : {o : Outcome Sent} (settings : Settings) (ts : List (List ℕ)) {m m' : Move} {step : Step} {remarks : Remarks} {r : Stepped} {out after : List ℕ} →
+pub steps-sent : {o : Outcome Sent} (settings : Settings) (ts : List (List ℕ)) {m m' : Move} {step : Step} {remarks : Option Remarks} {r : Stepped} {out after : List ℕ} →
     o ≡ done (sent settings ts m') → m ≡ m' → StepsShowing (done (sent settings ts m)) step remarks r out after → StepsShowing o step remarks r out after
 steps-sent settings ts {step = step} {remarks = remarks} {r = r} {out = out} {after = after} e moved w =
     rw e (subst (λ m. StepsShowing (done (sent settings ts m)) step remarks r out after) moved w)
@@ -127,17 +122,17 @@ tested-passes settings step job room ts h =
     }
 
 -- a survey of the job, once the tests are passed
-module _ (settings : Settings) (step : Step) (job : List ℕ) (room : ℕ) {r : Surveyed} (e : surveyed_as r ≡ map_done (survey_of (transaction_of step)) (tested settings step job room)) where
+module _ (settings : Settings) (step : Step) (job : List ℕ) (room : ℕ) {r : Result Located Refusal} (e : outcome_of r ≡ map_done (survey_of (transaction_of step)) (tested settings step job room)) where
   -- the transactions of a job that has passed, and what was found of them
-  pub surveyed_passes : {found : Located} → r ≡ Found found →
+  pub surveyed_passes : {found : Located} → r ≡ Ok found →
       (ts : List (List ℕ)) × (tested settings step job room ≡ done ts) × Passes settings step job room ts × (survey_of (transaction_of step) ts ≡ found)
   surveyed_passes {found} h =
-      let (ts, whole, same) = map-done _ (tested settings step job room) found (sym e ∙ ap surveyed_as h) in
+      let (ts, whole, same) = map-done _ (tested settings step job room) found (sym e ∙ ap outcome_of h) in
       (ts, whole, tested-passes settings step job room ts whole, same)
 
   -- or the refusal
-  pub surveyed_refused : {refusal : Refusal} → r ≡ Refused refusal → tested settings step job room ≡ refused (refusal_number refusal)
-  surveyed_refused {refusal} h = map-refused _ (tested settings step job room) (refusal_number refusal) (sym e ∙ ap surveyed_as h)
+  pub surveyed_refused : {refusal : Refusal} → r ≡ Err refusal → tested settings step job room ≡ refused (refusal_number refusal)
+  surveyed_refused {refusal} h = map-refused _ (tested settings step job room) (refusal_number refusal) (sym e ∙ ap outcome_of h)
 
 -- ── A step and a start ──
 

@@ -16,7 +16,7 @@ use Rattle.journal.specs.Walk.{decode}
 use Rattle.journal.specs.declared.record.Located.{Located}
 use Rattle.journal.proofs.RecordLaws.{legal-at}
 use Rattle.journal.proofs.SurveyLaws.{lies_at}
-use Rattle.reply.specs.declared.Reply.{Reply}
+use Rattle.reply.specs.Reading.{Reply}
 use Rattle.segmentation.specs.Segmentation.{cuttable}
 use Rattle.device.specs.Inner.{transaction_of, extent_for, SendsOf, Waits}
 use Rattle.device.specs.Reaction.{Move, onwards, segments_of}

@@ -5,18 +5,18 @@ use mathlib.Core.Path.{◌≡◌, refl}
 use Prim.Native.Nat.{ℕ, ◌+◌, ◌-◌, ◌≤◌}
 use native.Mathlib.Omega.{arith}
 use borrow.Author.Tests.{leb-true}
+use borrow.Rule.Slice.PartMut.{put_mid}
 use lib.Dec.{leb}
-use lib.ListN.{length, take, drop}
+use lib.ListN.{length, drop}
 use lib.Seq.{length-take-le}
-use Rattle.line.specs.Answer.{copied, Laid, Wrote}
+use Rattle.line.specs.Answer.{Laid, overlay}
 use Rattle.line.specs.Character.{CR, ESC, seven, alphanumeric}
 use Rattle.line.specs.Password.{password_text, password_in_range}
 use Rattle.line.specs.Test.{all}
 use Rattle.line.specs.Text.{bytes_of}
-use Rattle.line.specs.declared.answer.Written.{Written}
 use Rattle.line.specs.declared.password.Password.{Password}
 use Rattle.line.proofs.AllLaws.{all_append, all_weaken, alphanumeric-seven}
-use Rattle.line.proofs.CopyLaws.{copied-laid, copied-part}
+use Rattle.line.proofs.CopyLaws.{copied-behind}
 use Rattle.device.specs.Reaction.{logon_text}
 
 -- a password in range has at most 6 characters, all of them 7-bit values
@@ -31,14 +31,14 @@ unfolding all
 logon-seven password h = rw (all_append seven password (CR ∷ []), h)
 
 -- the password copied behind the start of a logon
-pub logon-begun : {r s : Written} (p : Password) (m first second : List ℕ) → p.length ≤ length p.characters → 4 + p.length ≤ length m →
-    Wrote (copied (ESC ∷ bytes_of "PG1") (length m)) r m first →
-    Wrote (copied (password_text p) (length (take (length first - 4) (drop 4 first)))) s (take (length first - 4) (drop 4 first)) second →
-    Laid ((ESC ∷ bytes_of "PG1") ++ password_text p) (4 + p.length) m (take 4 first ++ (second ++ drop (length first - 4) (drop 4 first)))
-logon-begun p m first second short fits w v =
+pub logon-begun : (p : Password) (m first second : List ℕ) → p.length ≤ length p.characters →
+    first ≡ ESC ∷ bytes_of "PG1" → second ≡ password_text p →
+    Laid ((ESC ∷ bytes_of "PG1") ++ password_text p) (4 + p.length) m (put_mid 4 (4 + p.length - 4) (first ++ drop 4 m) second)
+unfolding overlay
+logon-begun p m first second short w v =
     let start = ESC ∷ bytes_of "PG1" in
     let long = length-take-le p.length p.characters short in
     record {
       counts = omega arith;
-      leaves = copied-part start (password_text p) m first second 4 (copied-laid start m first (omega arith) w) refl (omega arith) v;
+      leaves = copied-behind start (password_text p) m _ second 4 (4 + p.length - 4) (rw w) refl (omega arith) v;
     }

@@ -1,6 +1,5 @@
 -- What the entry device does with a reply (document 01, "The desk's steps"): over replies and places in the job.
-use Rattle.std.specs.Prelude.{Bool, List, [], ◌∷◌, ◌++◌, map, ℕ, ◌+◌, ltb, eqb, length, get_or, if◌then◌else◌}
-use Rattle.std.proofs.Math.Option.{Option, some, none}
+use Rattle.std.specs.Prelude.{Bool, Option, Some, None, List, [], ◌∷◌, ◌++◌, map, ℕ, ◌+◌, ltb, eqb, length, get_or, if◌then◌else◌}
 use Rattle.line.specs.Character.{CR, EOT, ESC}
 use Rattle.line.specs.Parity.{with_parity}
 use Rattle.line.specs.Password.{password_text}
@@ -10,14 +9,11 @@ use Rattle.block.specs.Segments.{segment, segment_block}
 use Rattle.block.specs.declared.frame.Ending.TheVariants.{Etx}
 use Rattle.segmentation.specs.Segmentation.{segmentation_by}
 use Rattle.reply.specs.declared.Meaning.TheVariants.{IdRequest, Acceptance, Ack, Nak, Rs, Eot}
-use Rattle.reply.specs.declared.Reply.{Reply}
-use Rattle.reply.specs.declared.Reply.TheVariants.{Recognized, Unrecognized}
-use Rattle.device.specs.declared.reaction.BlockReply.{BlockReply}
-use Rattle.device.specs.declared.reaction.BlockReply.TheVariants as Block
-use Rattle.device.specs.declared.reaction.Code.TheVariants as Code
+use Rattle.reply.specs.Reading.{Reply}
+use Rattle.device.specs.declared.reaction.Code.{Code}
+use Rattle.device.specs.declared.reaction.Code.TheVariants as Codes
 use Rattle.device.specs.declared.reaction.Move as Moving
 use Rattle.device.specs.declared.state.Given.{Given}
-use Rattle.device.specs.declared.state.Given.TheVariants as Giving
 use Rattle.device.specs.declared.state.Place.{Place}
 use Rattle.device.specs.declared.state.Report.{Report}
 use Rattle.device.specs.declared.state.Report.TheVariants as Reporting
@@ -42,10 +38,14 @@ verdict_number Deferred = 4
 verdict_number Unsent = 5
 verdict_number InDoubt = 6
 
+-- a verdict, and the transaction that it is given to (R-6.6)
+abbrev pub given : ℕ → Verdict → Given
+given t v = record { transaction = t; verdict = v }
+
 -- what is given in document 01's numbers: the transaction and the number of its verdict, where there is one (R-6.6)
-abbrev pub given_as : Given → Option (ℕ × ℕ)
-given_as (Giving.Verdict t v) = some (t, verdict_number v)
-given_as Giving.Nothing = none
+abbrev pub given_as : Option Given → Option (ℕ × ℕ)
+given_as (Some g) = Some (g.transaction, verdict_number g.verdict)
+given_as None = None
 
 -- ── Places ──
 
@@ -96,20 +96,20 @@ bytes_of_string settings job step = map with_parity (string_text settings job st
 -- the step behind a reply, the verdict it gives, and what it reports
 pub record Move : Type 0 where
   pub next : Step
-  pub given : Given
+  pub given : Option Given
   pub report : Report
 
 -- on to a step, with no verdict (R-6.4)
 abbrev pub goes : Step → Move
-goes step = record { next = step; given = Giving.Nothing; report = Reporting.Nothing }
+goes step = record { next = step; given = None; report = Reporting.Nothing }
 
 -- on to a step, with a verdict on a transaction (R-6.4)
 abbrev pub gives : ℕ → Verdict → Step → Move
-gives t v step = record { next = step; given = Giving.Verdict t v; report = Reporting.Nothing }
+gives t v step = record { next = step; given = Some (given t v); report = Reporting.Nothing }
 
 -- the end of the call, with the reply to the close (R-6.4)
 abbrev pub reports : Reply → Move
-reports r = record { next = Stopped; given = Giving.Nothing; report = Reporting.Close r }
+reports r = record { next = Stopped; given = None; report = Reporting.Close r }
 
 -- a move as the code hands it on
 abbrev pub move_as : Moving.Move → Move
@@ -131,13 +131,13 @@ opens_again p = if ltb p.attempts 3 then goes (Opening (again p)) else goes Stop
 
 -- an ID request: the logon; else CR again (R-6.4)
 abbrev pub opens : Place → Reply → Move
-opens p (Recognized IdRequest) = goes (Logon first)
-opens p (Recognized Acceptance) = opens_again p
-opens p (Recognized Ack) = opens_again p
-opens p (Recognized Nak) = opens_again p
-opens p (Recognized Rs) = opens_again p
-opens p (Recognized Eot) = opens_again p
-opens p Unrecognized = opens_again p
+opens p (Some IdRequest) = goes (Logon first)
+opens p (Some Acceptance) = opens_again p
+opens p (Some Ack) = opens_again p
+opens p (Some Nak) = opens_again p
+opens p (Some Rs) = opens_again p
+opens p (Some Eot) = opens_again p
+opens p None = opens_again p
 
 -- ── Logon ──
 
@@ -147,26 +147,26 @@ logs_on_again settings p = if may_repeat settings p then goes (Logon (again p)) 
 
 -- NAK or an ID request: again; an acceptance: the first transaction; anything else, unread included: stop (R-6.4)
 abbrev pub logs_on : Settings → List (List ℕ) → Place → Reply → Move
-logs_on settings job p (Recognized Nak) = logs_on_again settings p
-logs_on settings job p (Recognized IdRequest) = logs_on_again settings p
-logs_on settings job p (Recognized Acceptance) = goes (onwards job 0)
-logs_on settings job p (Recognized Ack) = goes Stopped
-logs_on settings job p (Recognized Rs) = goes Stopped
-logs_on settings job p (Recognized Eot) = goes Stopped
-logs_on settings job p Unrecognized = goes Stopped
+logs_on settings job p (Some Nak) = logs_on_again settings p
+logs_on settings job p (Some IdRequest) = logs_on_again settings p
+logs_on settings job p (Some Acceptance) = goes (onwards job 0)
+logs_on settings job p (Some Ack) = goes Stopped
+logs_on settings job p (Some Rs) = goes Stopped
+logs_on settings job p (Some Eot) = goes Stopped
+logs_on settings job p None = goes Stopped
 
 -- ── Block ──
 
 -- a reply as this step reads it: one of the four codes; all else, an ID request and a logon acceptance too, is unread
 -- (R-6.4, R-6.5)
-abbrev pub block_reply : Reply → BlockReply
-block_reply (Recognized Ack) = Block.Recognized Code.Ack
-block_reply (Recognized Nak) = Block.Recognized Code.Nak
-block_reply (Recognized Rs) = Block.Recognized Code.Rs
-block_reply (Recognized Eot) = Block.Recognized Code.Eot
-block_reply (Recognized IdRequest) = Block.Unrecognized
-block_reply (Recognized Acceptance) = Block.Unrecognized
-block_reply Unrecognized = Block.Unrecognized
+abbrev pub block_reply : Reply → Option Code
+block_reply (Some Ack) = Some Codes.Ack
+block_reply (Some Nak) = Some Codes.Nak
+block_reply (Some Rs) = Some Codes.Rs
+block_reply (Some Eot) = Some Codes.Eot
+block_reply (Some IdRequest) = None
+block_reply (Some Acceptance) = None
+block_reply None = None
 
 -- the next block, or accepted and the next transaction, where the block ended its own (R-6.4)
 abbrev pub sends_next : Settings → List (List ℕ) → Place → Move
@@ -183,12 +183,12 @@ sends_again settings p =
 
 -- ACK: the next block; NAK: again; RS: rejected, and the next transaction; ESC EOT: deferred, stop;
 -- all else: unconfirmed, stop, and never sent again (R-6.4, R-6.5)
-abbrev pub sends_on : Settings → List (List ℕ) → Place → BlockReply → Move
-sends_on settings job p (Block.Recognized Code.Ack) = sends_next settings job p
-sends_on settings job p (Block.Recognized Code.Nak) = sends_again settings p
-sends_on settings job p (Block.Recognized Code.Rs) = gives p.transaction Rejected (onwards job (p.transaction + 1))
-sends_on settings job p (Block.Recognized Code.Eot) = gives p.transaction Deferred Stopped
-sends_on settings job p Block.Unrecognized = gives p.transaction Unconfirmed Stopped
+abbrev pub sends_on : Settings → List (List ℕ) → Place → Option Code → Move
+sends_on settings job p (Some Codes.Ack) = sends_next settings job p
+sends_on settings job p (Some Codes.Nak) = sends_again settings p
+sends_on settings job p (Some Codes.Rs) = gives p.transaction Rejected (onwards job (p.transaction + 1))
+sends_on settings job p (Some Codes.Eot) = gives p.transaction Deferred Stopped
+sends_on settings job p None = gives p.transaction Unconfirmed Stopped
 
 -- so a reply to a block is taken as this step reads it (R-6.4)
 abbrev pub sends : Settings → List (List ℕ) → Place → Reply → Move
@@ -198,17 +198,17 @@ sends settings job p r = sends_on settings job p (block_reply r)
 
 -- the close again, D + 1 times at most, then the NAK is reported (R-6.4)
 abbrev pub closes_again : Settings → Place → Move
-closes_again settings p = if may_repeat settings p then goes (Closing (again p)) else reports (Recognized Nak)
+closes_again settings p = if may_repeat settings p then goes (Closing (again p)) else reports (Some Nak)
 
 -- NAK: again; any other reply, unread too, is reported (R-6.4)
 abbrev pub closes : Settings → Place → Reply → Move
-closes settings p (Recognized Nak) = closes_again settings p
-closes settings p (Recognized IdRequest) = reports (Recognized IdRequest)
-closes settings p (Recognized Acceptance) = reports (Recognized Acceptance)
-closes settings p (Recognized Ack) = reports (Recognized Ack)
-closes settings p (Recognized Rs) = reports (Recognized Rs)
-closes settings p (Recognized Eot) = reports (Recognized Eot)
-closes settings p Unrecognized = reports Unrecognized
+closes settings p (Some Nak) = closes_again settings p
+closes settings p (Some IdRequest) = reports (Some IdRequest)
+closes settings p (Some Acceptance) = reports (Some Acceptance)
+closes settings p (Some Ack) = reports (Some Ack)
+closes settings p (Some Rs) = reports (Some Rs)
+closes settings p (Some Eot) = reports (Some Eot)
+closes settings p None = reports None
 
 -- ── Every step ──
 

@@ -1,7 +1,6 @@
 -- What becomes of accepted verdicts at the stop (document 02, wish 4), and verdicts settled.
-use Rattle.std.specs.Prelude.{Bool, true, false, List, map, ℕ, eqb, if◌then◌else◌}
+use Rattle.std.specs.Prelude.{None, Some, Bool, true, false, List, map, ℕ, eqb, if◌then◌else◌}
 use Rattle.reply.specs.declared.Meaning.TheVariants.{IdRequest, Acceptance, Ack, Nak, Rs, Eot}
-use Rattle.reply.specs.declared.Reply.TheVariants.{Recognized, Unrecognized}
 use Rattle.device.specs.declared.settling.Standing.{Standing}
 use Rattle.device.specs.declared.settling.Standing.TheVariants.{Open, Confirmed, InDoubt}
 use Rattle.device.specs.declared.state.Confirmation.{Confirmation}
@@ -31,13 +30,13 @@ is_stopped Stopped = true
 
 -- what a call reports confirms its accepted verdicts: the close was answered with ESC EOT, and with nothing else (R-6.11)
 abbrev pub confirms : Report → Bool
-confirms (Reporting.Close (Recognized Eot)) = true
-confirms (Reporting.Close (Recognized IdRequest)) = false
-confirms (Reporting.Close (Recognized Acceptance)) = false
-confirms (Reporting.Close (Recognized Ack)) = false
-confirms (Reporting.Close (Recognized Nak)) = false
-confirms (Reporting.Close (Recognized Rs)) = false
-confirms (Reporting.Close Unrecognized) = false
+confirms (Reporting.Close (Some Eot)) = true
+confirms (Reporting.Close (Some IdRequest)) = false
+confirms (Reporting.Close (Some Acceptance)) = false
+confirms (Reporting.Close (Some Ack)) = false
+confirms (Reporting.Close (Some Nak)) = false
+confirms (Reporting.Close (Some Rs)) = false
+confirms (Reporting.Close None) = false
 confirms Reporting.Nothing = false
 
 -- how they stand at a stop: with early they stay, with late they are in doubt unless confirmed (R-6.11)

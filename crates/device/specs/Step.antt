@@ -1,14 +1,13 @@
 -- One step of the entry device: read, react, write.
-use Rattle.std.specs.Prelude.{Bool, true, not, ◌&&◌, List, [], ◌∷◌, ◌≡◌, ℕ, ◌+◌, leb, ltb, eqb, length, if◌then◌else◌}
-use Rattle.line.specs.Answer.{Outcome, done, refused, map_done, and_then, output, overlay, written_as}
+use Rattle.std.specs.Prelude.{Option, None, Result, Bool, true, not, ◌&&◌, List, [], ◌∷◌, ◌≡◌, ℕ, ◌+◌, leb, ltb, eqb, length, if◌then◌else◌}
+use Rattle.line.specs.Answer.{Outcome, done, refused, map_done, and_then, output, overlay, outcome_of}
 use Rattle.line.specs.Password.{password_in_range}
-use Rattle.line.specs.declared.answer.Written.{Written}
+use Rattle.line.specs.declared.answer.Refusal.{Refusal}
 use Rattle.journal.specs.Walk.{decode}
 use Rattle.segmentation.specs.Segmentation.{cuttable}
 use Rattle.segmentation.specs.declared.way.Way.{Way}
 use Rattle.reply.specs.Reading.{reply_read}
 use Rattle.reply.specs.declared.remarks.Remarks.{Remarks}
-use Rattle.reply.specs.declared.remarks.Remarks.TheVariants.{Nothing}
 use Rattle.device.specs.Reaction.{Move, moves, goes, given_as, blocks_in, first, bytes_of_string}
 use Rattle.device.specs.Settling.{is_stopped, standing_at}
 use Rattle.device.specs.declared.settling.Standing.{Standing}
@@ -106,7 +105,7 @@ standing_of step (done x) = if is_stopped step then Open else x.standing
 standing_of step (refused n) = Open
 
 -- what is answered: the outcome, how the accepted verdicts stand, the remarks, and a move
-abbrev pub answered : Written → Standing → Remarks → Move → Stepped
+abbrev pub answered : Result ℕ Refusal → Standing → Option Remarks → Move → Stepped
 answered w standing remarks m =
     record {
       outcome = w;
@@ -120,7 +119,7 @@ answered w standing remarks m =
 -- what a step owes: the count, the state, the verdict, its number, the report, how the accepted verdicts stand, and the output
 -- (R-6.7, R-6.11)
 pub record Steps (o : Outcome Sent) (step : Step) (r : Stepped) (out out' : List ℕ) : Type 0 where
-  pub answers : written_as r.outcome ≡ map_done (λ x. length x.string) o
+  pub answers : outcome_of r.outcome ≡ map_done (λ x. length x.string) o
   pub state : r.state.step ≡ (move_of step o).next
   pub gave : r.given ≡ (move_of step o).given
   pub numbers : given_as r.given ≡ given_as (move_of step o).given
@@ -129,11 +128,11 @@ pub record Steps (o : Outcome Sent) (step : Step) (r : Stepped) (out out' : List
   pub leaves : out' ≡ overlay (output (map_done (λ x. x.string) o)) out
 
 -- the remarks that an outcome reports, of those in the reply: none where the step is refused (R-6.13)
-abbrev pub reported_by : Outcome Sent → Remarks → Remarks
+abbrev pub reported_by : Outcome Sent → Option Remarks → Option Remarks
 reported_by (done x) remarks = remarks
-reported_by (refused n) remarks = Nothing
+reported_by (refused n) remarks = None
 
 -- what a step owes, and the remarks in its reply (R-6.13)
-pub record StepsShowing (o : Outcome Sent) (step : Step) (remarks : Remarks) (r : Stepped) (out out' : List ℕ) : Type 0 where
+pub record StepsShowing (o : Outcome Sent) (step : Step) (remarks : Option Remarks) (r : Stepped) (out out' : List ℕ) : Type 0 where
   pub steps : Steps o step r out out'
   pub shows : r.remarks ≡ reported_by o remarks

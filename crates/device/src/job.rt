@@ -5,8 +5,8 @@ ghost use Rattle.journal.specs.Cursor.{walk_from};
 ghost use Rattle.journal.specs.Walk.{decode};
 ghost use Rattle.device.specs.Step.{cuts_all};
 
+use journal::Position;
 use journal::cursor::{open, step_back};
-use journal::{Opened, Position, Step};
 use segmentation::Way;
 use segmentation::way::is_cuttable;
 
@@ -18,8 +18,7 @@ pub fn cuts_all(way: Way, job: &[u8]) -> bool
     match way {
         Way::Filled => true,
         Way::WholeFields => {
-            let opened = open(job);
-            let Opened::At(position) = opened else {
+            let Ok(position) = open(job) else {
                 return true;
             };
             cuts_from(way, job, position)
@@ -34,17 +33,17 @@ fn cuts_from(way: Way, job: &[u8], position: Position) -> bool
 {
     let mut at = position;
     let mut every = true;
+    // A refusal finds nothing here and is not handed on: a `loop` with three ends, and no `?`.
     loop {
-        let step = step_back(job, at);
-        match step {
-            Step::Record(place) => {
+        match step_back(job, at) {
+            Ok(Some(place)) => {
                 at = place.next;
                 let start = place.start;
                 let end = start + place.length;
-                every = every & is_cuttable(way, &job[start..end]);
+                every &= is_cuttable(way, &job[start..end]);
             }
-            Step::End => return every,
-            Step::Refused(_) => return true,
+            Ok(None) => return every,
+            Err(_) => return true,
         }
     }
 }

@@ -16,8 +16,7 @@ pub(crate) const OPENINGS: usize = 3;
 pub fn settings_in_range(settings: Settings) -> bool
     ensures { result ≡ settings_in_range settings }
 {
-    let password = settings.password;
-    is_password(password) & (settings.retries <= MOST_RETRIES)
+    is_password(settings.password) & (settings.retries <= MOST_RETRIES)
 }
 
 // The attempts of a saved step are 1 to the step's most.
@@ -25,12 +24,11 @@ pub(crate) fn step_in_range(settings: Settings, step: Step) -> bool
     requires { settings.retries ≤ 9 }
     ensures { result ≡ step_in_range settings step }
 {
-    let retries = settings.retries;
     match step {
         Step::Opening(place) => attempts_in_range(OPENINGS, place),
-        Step::Logon(place) => attempts_in_range(retries + 1, place),
-        Step::Sending(place) => attempts_in_range(retries + 1, place),
-        Step::Closing(place) => attempts_in_range(retries + 1, place),
+        Step::Logon(place) | Step::Sending(place) | Step::Closing(place) => {
+            attempts_in_range(settings.retries + 1, place)
+        }
         Step::Stopped => true,
     }
 }
@@ -49,10 +47,8 @@ pub(crate) fn place_exists(settings: Settings, count: usize, info: &[u8], step: 
         result ≡ exists settings job step }
 {
     match step {
-        Step::Opening(place) => is_nowhere(place),
-        Step::Logon(place) => is_nowhere(place),
+        Step::Opening(place) | Step::Logon(place) | Step::Closing(place) => is_nowhere(place),
         Step::Sending(place) => block_exists(settings, count, info, place),
-        Step::Closing(place) => is_nowhere(place),
         Step::Stopped => true,
     }
 }
@@ -77,8 +73,7 @@ fn block_exists(settings: Settings, count: usize, info: &[u8], place: Place) -> 
 pub(crate) fn blocks_of(settings: Settings, info: &[u8]) -> usize
     ensures { result ≡ length (segments_of settings info.now) }
 {
-    let way = settings.way;
-    block_count(way, info)
+    block_count(settings.way, info)
 }
 
 // The transaction whose block a step sends; the first outside sending.
@@ -86,10 +81,7 @@ pub(crate) fn transaction_of(step: Step) -> usize
     ensures { result ≡ transaction_of step }
 {
     match step {
-        Step::Opening(_) => 0,
-        Step::Logon(_) => 0,
         Step::Sending(place) => place.transaction,
-        Step::Closing(_) => 0,
-        Step::Stopped => 0,
+        Step::Opening(_) | Step::Logon(_) | Step::Closing(_) | Step::Stopped => 0,
     }
 }

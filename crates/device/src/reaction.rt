@@ -12,7 +12,7 @@ use reply::{Meaning, Reply};
 #[derive(Clone, Copy)]
 pub(crate) struct Move {
     pub step: Step,
-    pub given: Given,
+    pub given: Option<Given>,
     pub report: Report,
 }
 
@@ -26,21 +26,16 @@ pub(crate) enum Code {
     Eot,
 }
 
-// A reply as the block's step reads it, to be taken apart by `let .. else`.
-#[derive(Clone, Copy)]
-pub(crate) enum BlockReply {
-    Recognized(Code),
-    Unrecognized,
-}
-
 // What the device does with a reply, step by step. The job has so many transactions, and the step's
-// has this information.
+// has this information. The settings were tested, which their type cannot say, since C hands over
+// any; each contract below says of the retry limit what its addition needs.
 pub(crate) fn moves(settings: Settings, count: usize, info: &[u8], step: Step, reply: Reply) -> Move
     requires { (settings.retries ≤ 9)
         × ((job : List (List ℕ)) × (length job ≡ count) × Waits settings job step info.now) }
     ensures { (job : List (List ℕ)) → length job ≡ count → Waits settings job step info.now →
         Reaction.move_as result ≡ Reaction.moves settings job step reply }
 {
+    // A `match`: the steps are a closed list, the papers' own.
     match step {
         Step::Opening(place) => opens(place, reply),
         Step::Logon(place) => logs_on(settings, count, place, reply),
@@ -57,7 +52,7 @@ pub(crate) fn moves(settings: Settings, count: usize, info: &[u8], step: Step, r
 fn opens(place: Place, reply: Reply) -> Move
     ensures { Reaction.move_as result ≡ Reaction.opens place reply }
 {
-    let Reply::Recognized(meaning) = reply else {
+    let Some(meaning) = reply else {
         return opens_again(place);
     };
     match meaning {
@@ -84,7 +79,7 @@ fn logs_on(settings: Settings, count: usize, place: Place, reply: Reply) -> Move
     requires { settings.retries ≤ 9 }
     ensures { (job : List (List ℕ)) → length job ≡ count → Reaction.move_as result ≡ Reaction.logs_on settings job place reply }
 {
-    let Reply::Recognized(meaning) = reply else {
+    let Some(meaning) = reply else {
         return goes(Step::Stopped);
     };
     match meaning {
@@ -108,7 +103,7 @@ fn sends(settings: Settings, count: usize, blocks: usize, place: Place, reply: R
         Reaction.move_as result ≡ Reaction.sends settings job place reply }
 {
     let transaction = place.transaction;
-    let BlockReply::Recognized(code) = block_reply(reply) else {
+    let Some(code) = block_reply(reply) else {
         return gives(transaction, Verdict::Unconfirmed, Step::Stopped);
     };
     match code {
@@ -124,18 +119,18 @@ fn sends(settings: Settings, count: usize, blocks: usize, place: Place, reply: R
 
 // A reply as the block's step reads it: an ID request and a logon acceptance are
 // unrecognized there (document 01's unread).
-pub(crate) fn block_reply(reply: Reply) -> BlockReply
+pub(crate) fn block_reply(reply: Reply) -> Option<Code>
     ensures { result ≡ Reaction.block_reply reply }
 {
-    let Reply::Recognized(meaning) = reply else {
-        return BlockReply::Unrecognized;
+    let Some(meaning) = reply else {
+        return None;
     };
     match meaning {
-        Meaning::Ack => BlockReply::Recognized(Code::Ack),
-        Meaning::Nak => BlockReply::Recognized(Code::Nak),
-        Meaning::Rs => BlockReply::Recognized(Code::Rs),
-        Meaning::Eot => BlockReply::Recognized(Code::Eot),
-        Meaning::IdRequest | Meaning::Acceptance => BlockReply::Unrecognized,
+        Meaning::Ack => Some(Code::Ack),
+        Meaning::Nak => Some(Code::Nak),
+        Meaning::Rs => Some(Code::Rs),
+        Meaning::Eot => Some(Code::Eot),
+        Meaning::IdRequest | Meaning::Acceptance => None,
     }
 }
 
@@ -147,8 +142,7 @@ fn sends_next(count: usize, blocks: usize, place: Place) -> Move
         Reaction.move_as result ≡ Reaction.sends_next settings job place }
 {
     let transaction = place.transaction;
-    let left = blocks - place.block;
-    if left == 1 {
+    if place.block + 1 == blocks {
         let step = onwards(count, transaction + 1);
         return gives(transaction, Verdict::Accepted, step);
     }
@@ -176,7 +170,7 @@ fn closes(settings: Settings, place: Place, reply: Reply) -> Move
     requires { settings.retries ≤ 9 }
     ensures { Reaction.move_as result ≡ Reaction.closes settings place reply }
 {
-    let Reply::Recognized(meaning) = reply else {
+    let Some(meaning) = reply else {
         return reports(reply);
     };
     match meaning {
@@ -231,9 +225,8 @@ fn again(place: Place) -> Place
     ensures { result ≡ Reaction.again place }
 {
     Place {
-        transaction: place.transaction,
-        block: place.block,
         attempts: place.attempts + 1,
+        ..place
     }
 }
 
@@ -243,7 +236,7 @@ pub(crate) fn goes(step: Step) -> Move
 {
     Move {
         step,
-        given: Given::Nothing,
+        given: None,
         report: Report::Nothing,
     }
 }
@@ -254,7 +247,10 @@ fn gives(transaction: usize, verdict: Verdict, step: Step) -> Move
 {
     Move {
         step,
-        given: Given::Verdict(transaction, verdict),
+        given: Some(Given {
+            transaction,
+            verdict,
+        }),
         report: Report::Nothing,
     }
 }
@@ -265,7 +261,7 @@ fn reports(reply: Reply) -> Move
 {
     Move {
         step: Step::Stopped,
-        given: Given::Nothing,
+        given: None,
         report: Report::Close(reply),
     }
 }

@@ -3,7 +3,7 @@ ghost use Rattle.std.specs.Prelude.{◌≡◌};
 ghost use Rattle.device.specs.Reaction.{block_reply};
 ghost use Rattle.device.specs.Remarks.{counted_as, counted_by};
 
-use crate::reaction::{BlockReply, block_reply};
+use crate::reaction::block_reply;
 use crate::state::Step;
 use reply::Reply;
 
@@ -12,11 +12,9 @@ pub(crate) fn counted_as(step: Step, reply: Reply) -> Reply
     ensures { result ≡ counted_as step reply }
 {
     match step {
-        Step::Opening(_) => reply,
-        Step::Logon(_) => reply,
+        Step::Opening(_) | Step::Logon(_) | Step::Closing(_) => reply,
         Step::Sending(_) => counted_to_block(reply),
-        Step::Closing(_) => reply,
-        Step::Stopped => Reply::Unrecognized,
+        Step::Stopped => None,
     }
 }
 
@@ -24,8 +22,9 @@ pub(crate) fn counted_as(step: Step, reply: Reply) -> Reply
 fn counted_to_block(reply: Reply) -> Reply
     ensures { result ≡ counted_by (block_reply reply) reply }
 {
-    let BlockReply::Recognized(_) = block_reply(reply) else {
-        return Reply::Unrecognized;
+    // No `and`: `let .. else` is the named form for what counts as unread.
+    let Some(_) = block_reply(reply) else {
+        return None;
     };
     reply
 }

@@ -4,11 +4,10 @@ ghost use Rattle.line.specs.Answer.{done};
 ghost use Rattle.device.specs.Reaction.{move_as};
 ghost use Rattle.device.specs.Settling as Settling;
 ghost use Rattle.device.specs.Step.{sent, standing_of};
-ghost use Rattle.device.specs.declared.state.Report.TheVariants as Reporting;
 
 use crate::reaction::Move;
-use crate::state::{Confirmation, Report, Settings, Step, Verdict, verdict_number};
-use reply::{Meaning, Reply};
+use crate::state::{Confirmation, Report, Settings, Step, Verdict};
+use reply::Meaning;
 
 // How the accepted verdicts of a call stand.
 #[derive(Clone, Copy)]
@@ -26,8 +25,7 @@ pub fn settle(standing: Standing, verdicts: &mut [u8])
     ensures { verdicts.new ≡ Settling.settled_numbers standing verdicts.old }
 {
     match standing {
-        Standing::Open => {}
-        Standing::Confirmed => {}
+        Standing::Open | Standing::Confirmed => {}
         Standing::InDoubt => doubt(verdicts),
     }
 }
@@ -36,10 +34,8 @@ pub fn settle(standing: Standing, verdicts: &mut [u8])
 fn doubt(verdicts: &mut [u8])
     ensures { verdicts.new ≡ map Settling.doubted_number verdicts.old }
 {
-    let mut i = 0;
-    while i < verdicts.len() {
-        verdicts[i] = doubted(verdicts[i]);
-        i += 1;
+    for v in verdicts.iter_mut() {
+        *v = doubted(*v);
     }
 }
 
@@ -47,26 +43,24 @@ fn doubt(verdicts: &mut [u8])
 fn doubted(number: u8) -> u8
     ensures { result ≡ Settling.doubted_number number }
 {
-    if number == verdict_number(Verdict::Accepted) {
-        return verdict_number(Verdict::InDoubt);
+    if number == u8::from(Verdict::Accepted) {
+        u8::from(Verdict::InDoubt)
+    } else {
+        number
     }
-    number
 }
 
 // How the accepted verdicts stand behind a move from a step.
 pub(crate) fn standing_after(settings: Settings, step: Step, next: Move) -> Standing
     ensures { (job : List (List ℕ)) → result ≡ standing_of step (done (sent settings job (move_as next))) }
 {
-    if is_stopped(step) {
+    if matches!(step, Step::Stopped) {
         return Standing::Open;
     }
-    let following = next.step;
-    if !is_stopped(following) {
+    if !matches!(next.step, Step::Stopped) {
         return Standing::Open;
     }
-    let confirmation = settings.confirmation;
-    let report = next.report;
-    standing_by(confirmation, report)
+    standing_by(settings.confirmation, next.report)
 }
 
 // How they stand at a stop with this report.
@@ -75,13 +69,8 @@ fn standing_by(confirmation: Confirmation, report: Report) -> Standing
 {
     match confirmation {
         Confirmation::Early => Standing::Confirmed,
-        Confirmation::Late => {
-            if confirms(report) {
-                Standing::Confirmed
-            } else {
-                Standing::InDoubt
-            }
-        }
+        Confirmation::Late if confirms(report) => Standing::Confirmed,
+        Confirmation::Late => Standing::InDoubt,
     }
 }
 
@@ -89,38 +78,5 @@ fn standing_by(confirmation: Confirmation, report: Report) -> Standing
 fn confirms(report: Report) -> bool
     ensures { result ≡ Settling.confirms report }
 {
-    match report {
-        Report::Close(reply) => is_eot(reply),
-        Report::Nothing => false,
-    }
-}
-
-// The reply to the close is ESC EOT.
-fn is_eot(reply: Reply) -> bool
-    ensures { result ≡ Settling.confirms (Reporting.Close reply) }
-{
-    let Reply::Recognized(meaning) = reply else {
-        return false;
-    };
-    match meaning {
-        Meaning::IdRequest => false,
-        Meaning::Acceptance => false,
-        Meaning::Ack => false,
-        Meaning::Nak => false,
-        Meaning::Rs => false,
-        Meaning::Eot => true,
-    }
-}
-
-// The device has stopped.
-fn is_stopped(step: Step) -> bool
-    ensures { result ≡ Settling.is_stopped step }
-{
-    match step {
-        Step::Opening(_) => false,
-        Step::Logon(_) => false,
-        Step::Sending(_) => false,
-        Step::Closing(_) => false,
-        Step::Stopped => true,
-    }
+    matches!(report, Report::Close(Some(Meaning::Eot)))
 }

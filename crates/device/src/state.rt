@@ -3,7 +3,7 @@ ghost use Rattle.std.specs.Prelude.{◌≡◌};
 ghost use Rattle.device.specs.Reaction.{verdict_number};
 
 use crate::settling::Standing;
-use line::{Password, Written};
+use line::{Password, Refusal};
 use reply::{Remarks, Reply};
 use segmentation::Way;
 
@@ -68,28 +68,37 @@ pub enum Verdict {
     InDoubt,
 }
 
-// The number of a verdict.
-pub fn verdict_number(verdict: Verdict) -> u8
-    ensures { result ≡ verdict_number verdict }
-{
-    match verdict {
-        Verdict::Accepted => 1,
-        Verdict::Rejected => 2,
-        Verdict::Unconfirmed => 3,
-        Verdict::Deferred => 4,
-        Verdict::Unsent => 5,
-        Verdict::InDoubt => 6,
+impl From<Verdict> for u8 {
+    ghost from_gives = { λ verdict number. number ≡ verdict_number verdict };
+
+    fn from(verdict: Verdict) -> u8 {
+        match verdict {
+            Verdict::Accepted => 1,
+            Verdict::Rejected => 2,
+            Verdict::Unconfirmed => 3,
+            Verdict::Deferred => 4,
+            Verdict::Unsent => 5,
+            Verdict::InDoubt => 6,
+        }
     }
 }
 
-// The verdict that a step gives, and to which transaction.
-#[derive(Clone, Copy)]
-pub enum Given {
-    Verdict(usize, Verdict),
-    Nothing,
+// The number of a verdict: `u8::from`, by the name that README.md gives it.
+pub fn verdict_number(verdict: Verdict) -> u8
+    ensures { result ≡ verdict_number verdict }
+{
+    u8::from(verdict)
 }
 
-// The reply to the close, once it came.
+// A verdict, and the transaction that it is given to.
+#[derive(Clone, Copy)]
+pub struct Given {
+    pub transaction: usize,
+    pub verdict: Verdict,
+}
+
+// The reply to the close, once it came. No Option: a reply is one itself, and `Some(None)`, that the
+// close was answered by nothing that could be read, says less than `Close(None)`.
 #[derive(Clone, Copy)]
 pub enum Report {
     Close(Reply),
@@ -98,13 +107,13 @@ pub enum Report {
 
 // The bytes put out, or the refusal; the state behind the step; what it gives and reports; at the
 // stop, what becomes of the accepted verdicts given before; and where the central's lines stand in
-// the reply that was read.
+// the reply that was read. A refusal hands the state back too: no `Result` round all of it.
 #[derive(Clone, Copy)]
 pub struct Stepped {
-    pub outcome: Written,
+    pub outcome: Result<usize, Refusal>,
     pub state: State,
-    pub given: Given,
+    pub given: Option<Given>,
     pub report: Report,
     pub standing: Standing,
-    pub remarks: Remarks,
+    pub remarks: Option<Remarks>,
 }

@@ -1,10 +1,9 @@
 // One step of the entry device: a reply off the line, the next string and the state behind it.
-ghost use Rattle.std.specs.Prelude.{true, List, ◌≡◌, ℕ, ◌+◌, ◌≤◌, drop, length, take};
-ghost use Rattle.line.specs.Answer.{done, map_done};
+ghost use Rattle.std.specs.Prelude.{true, None, List, ◌≡◌, ℕ, ◌+◌, ◌≤◌, drop, length, take};
+ghost use Rattle.line.specs.Answer.{done, map_done, outcome_of};
 ghost use Rattle.line.specs.Password.{password_in_range};
-ghost use Rattle.journal.specs.Survey.{survey_of, surveyed_as};
+ghost use Rattle.journal.specs.Survey.{survey_of};
 ghost use Rattle.device.specs.Inner.{Waits, extent_for, transaction_of};
-ghost use Rattle.reply.specs.declared.remarks.Remarks.TheVariants as Remark;
 ghost use Rattle.device.specs.Reaction.{move_as};
 ghost use Rattle.device.specs.Remarks.{remarks_at};
 ghost use Rattle.device.specs.Step.{StepsShowing, answered, sent, started, stepped, tested};
@@ -17,34 +16,26 @@ use crate::remarks::counted_as;
 use crate::settling::{Standing, standing_after};
 use crate::state::{Settings, State, Step, Stepped};
 use crate::string::{ROOM, put_string};
-use journal::record::{Extent, Located, Surveyed, survey};
-use line::{Refusal, Written};
+use journal::record::{Extent, Located, survey};
+use line::Refusal;
 use reply::remarks::remarks_of;
 use reply::{Remarks, read};
 
 // The start of a call for a job, a journal lent at its exact length: the first string and state.
 pub fn start(settings: Settings, job: &[u8], out: &mut [u8]) -> Stepped
     ensures { StepsShowing (started settings job.now (length out.old))
-        Variants.Stopped Remark.Nothing result out.old out.new }
+        Variants.Stopped None result out.old out.new }
 {
     match test(settings, Step::Stopped, job, out.len()) {
-        Surveyed::Found(found) => {
-            let here = found.here;
-            send(
-                settings,
-                part(job, here),
-                Step::Stopped,
-                goes(Step::Opening(first())),
-                Remarks::Nothing,
-                out,
-            )
-        }
-        Surveyed::Refused(refusal) => answer(
-            Written::Refused(refusal),
-            Standing::Open,
-            Remarks::Nothing,
-            goes(Step::Stopped),
+        Ok(found) => send(
+            settings,
+            part(job, found.here),
+            Step::Stopped,
+            goes(Step::Opening(first())),
+            None,
+            out,
         ),
+        Err(refusal) => answer(Err(refusal), Standing::Open, None, goes(Step::Stopped)),
     }
 }
 
@@ -55,54 +46,41 @@ pub fn step(state: State, settings: Settings, job: &[u8], reply: &[u8], out: &mu
 {
     let step = state.step;
     match test(settings, step, job, out.len()) {
-        Surveyed::Found(found) => {
-            let count = found.count;
-            let here = found.here;
-            let info = part(job, here);
+        Ok(found) => {
+            let info = part(job, found.here);
             let heard = read(reply);
-            let next = moves(settings, count, info, step, heard);
+            let next = moves(settings, found.count, info, step, heard);
             let extent = extent_for(found, step, next);
             let following = part(job, extent);
             let remarks = remarks_of(counted_as(step, heard), reply);
             send(settings, following, step, next, remarks, out)
         }
-        Surveyed::Refused(refusal) => answer(
-            Written::Refused(refusal),
-            Standing::Open,
-            Remarks::Nothing,
-            goes(step),
-        ),
+        Err(refusal) => answer(Err(refusal), Standing::Open, None, goes(step)),
     }
 }
 
 // How many transactions the job has, and where the step's and the one behind it lie; or why the call
 // is refused. This is the one walk over the job, besides the one for fields that are kept whole.
-fn test(settings: Settings, step: Step, job: &[u8], room: usize) -> Surveyed
-    ensures { surveyed_as result ≡ map_done (survey_of (transaction_of step)) (tested settings step job.now room) }
+fn test(settings: Settings, step: Step, job: &[u8], room: usize) -> Result<Located, Refusal>
+    ensures { outcome_of result ≡ map_done (survey_of (transaction_of step)) (tested settings step job.now room) }
 {
     if !settings_in_range(settings) {
-        return Surveyed::Refused(Refusal::Range);
+        return Err(Refusal::Range);
     }
     if !step_in_range(settings, step) {
-        return Surveyed::Refused(Refusal::Range);
+        return Err(Refusal::Range);
     }
     if room < ROOM {
-        return Surveyed::Refused(Refusal::Size);
+        return Err(Refusal::Size);
     }
-    let surveyed = survey(job, transaction_of(step));
-    let Surveyed::Found(found) = surveyed else {
-        return surveyed;
-    };
-    let way = settings.way;
-    if !cuts_all(way, job) {
-        return Surveyed::Refused(Refusal::Length);
+    let found = survey(job, transaction_of(step))?;
+    if !cuts_all(settings.way, job) {
+        return Err(Refusal::Length);
     }
-    let count = found.count;
-    let extent = found.here;
-    if !place_exists(settings, count, part(job, extent), step) {
-        return Surveyed::Refused(Refusal::Range);
+    if !place_exists(settings, found.count, part(job, found.here), step) {
+        return Err(Refusal::Range);
     }
-    surveyed
+    Ok(found)
 }
 
 // The part of the job at an extent.
@@ -119,13 +97,11 @@ fn part(job: &[u8], extent: Extent) -> &[u8]
 fn extent_for(found: Located, step: Step, next: Move) -> Extent
     ensures { result ≡ extent_for found (transaction_of step) (transaction_of next.step) }
 {
-    let from = transaction_of(step);
-    let following = next.step;
-    let to = transaction_of(following);
-    if to == from {
-        return found.here;
+    if transaction_of(next.step) == transaction_of(step) {
+        found.here
+    } else {
+        found.next
     }
-    found.next
 }
 
 // A move from a step, with the string of the step that it leads to, whose transaction has this
@@ -135,7 +111,7 @@ fn send(
     info: &[u8],
     step: Step,
     next: Move,
-    remarks: Remarks,
+    remarks: Option<Remarks>,
     out: &mut [u8],
 ) -> Stepped
     requires { (password_in_range settings.password ≡ true)
@@ -144,28 +120,24 @@ fn send(
     ensures { (job : List (List ℕ)) → Waits settings job next.step info.now →
         StepsShowing (done (sent settings job (move_as next))) step remarks result out.old out.new }
 {
-    let following = next.step;
-    let n = put_string(settings, info, following, out);
-    answer(
-        Written::Count(n),
-        standing_after(settings, step, next),
-        remarks,
-        next,
-    )
+    let n = put_string(settings, info, next.step, out);
+    answer(Ok(n), standing_after(settings, step, next), remarks, next)
 }
 
 // What the call comes to, how the accepted verdicts stand, the remarks, and the move.
-fn answer(outcome: Written, standing: Standing, remarks: Remarks, next: Move) -> Stepped
+fn answer(
+    outcome: Result<usize, Refusal>,
+    standing: Standing,
+    remarks: Option<Remarks>,
+    next: Move,
+) -> Stepped
     ensures { result ≡ answered outcome standing remarks (move_as next) }
 {
-    let step = next.step;
-    let given = next.given;
-    let report = next.report;
     Stepped {
         outcome,
-        state: State { step },
-        given,
-        report,
+        state: State { step: next.step },
+        given: next.given,
+        report: next.report,
         standing,
         remarks,
     }

@@ -12,10 +12,10 @@ ghost use Rattle.device.specs.Inner.{Waits};
 ghost use Rattle.device.specs.Reaction.{logon_text, bytes_of_string};
 
 use crate::state::{Settings, Step};
+use line::Password;
+use line::answer::count;
 use line::character::{CR, EOT, ESC};
-use line::memory::copy;
 use line::parity::set_parity;
-use line::{Password, Written};
 use segmentation::{Way, write_segment};
 
 // Room for every string that the device sends.
@@ -29,12 +29,10 @@ pub(crate) fn put_string(settings: Settings, info: &[u8], step: Step, out: &mut 
     ensures { (job : List (List ℕ)) → Waits settings job step info.now →
         Laid (bytes_of_string settings job step) result out.old out.new }
 {
-    let password = settings.password;
-    let way = settings.way;
     match step {
         Step::Opening(_) => put_text(&[CR], out),
-        Step::Logon(_) => put_logon(password, out),
-        Step::Sending(place) => put_segment(way, info, place.block, out),
+        Step::Logon(_) => put_logon(settings.password, out),
+        Step::Sending(place) => put_segment(settings.way, info, place.block, out),
         Step::Closing(_) => put_text(&[EOT, CR], out),
         Step::Stopped => 0,
     }
@@ -55,11 +53,10 @@ fn write_logon(password: Password, text: &mut [u8]) -> usize
     requires { (password_in_range password ≡ true) × (11 ≤ length text.old) }
     ensures { Laid (logon_text (password_text password)) result text.old text.new }
 {
-    let characters = password.characters;
     let length = password.length;
     let end = 4 + length;
-    copy(&[ESC, b'P', b'G', b'1'], text);
-    copy(&characters[..length], &mut text[4..]);
+    text[..4].copy_from_slice(&[ESC, b'P', b'G', b'1']);
+    text[4..end].copy_from_slice(&password.characters[..length]);
     text[end] = CR;
     end + 1
 }
@@ -73,9 +70,7 @@ fn put_segment(way: Way, info: &[u8], index: usize, out: &mut [u8]) -> usize
 {
     let mut text = [0u8; ROOM];
     // Never refused: the transaction is legal and can be cut, and a block fits.
-    let Written::Count(n) = write_segment(way, info, index, &mut text) else {
-        return 0;
-    };
+    let n = count(write_segment(way, info, index, &mut text));
     put_text(&text[..n], out)
 }
 
@@ -84,6 +79,5 @@ fn put_text(text: &[u8], out: &mut [u8]) -> usize
     requires { (all seven text.now ≡ true) × (length text.now ≤ length out.old) }
     ensures { Laid (map with_parity text.now) result out.old out.new }
 {
-    set_parity(text, out);
-    text.len()
+    count(set_parity(text, out))
 }

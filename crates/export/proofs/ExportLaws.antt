@@ -1,25 +1,24 @@
 -- Laws of a journal written out: bytes put behind what is there, a walk that looks whether every record is a page, a page by its two fields, and a loop that puts the lines of one record after the other.
-use Rattle.std.specs.Prelude.{if◌then◌else◌}
+use Rattle.std.specs.Prelude.{None, Some, if◌then◌else◌}
 use mathlib.Core.Bool.{Bool, true, false, ◌&&◌, and_assoc, and_comm, and-true, and-eq-true_iff}
 use mathlib.Core.List.{List, [], ◌∷◌, ◌++◌, flat_map, append_assoc, append-nil, reverse, reverse-cons}
-use mathlib.Core.Option.{none, some}
 use mathlib.Core.Path.{◌≡◌, refl, sym, ap, ◌∙◌}
 use Prim.Native.Nat.{ℕ, ◌+◌, ◌-◌, ◌*◌, ◌≤◌, ◌<◌}
 use native.Mathlib.Omega.{arith}
 use borrow.Author.Tests.{eqb-true}
+use borrow.Rule.Slice.PartMut.{put_mid}
 use lib.Dec.{eqb}
 use lib.ListN.{length, take, drop, length-append, length-reverse, take-append-drop}
 use lib.Seq.{length-take-le, take_at, drop-drop, drop-append_seam, drop-append-add}
-use Rattle.line.proofs.CopyLaws.{copied-laid}
-use Rattle.line.proofs.LaidLaws.{laid_none, part_length, laid-length, laid-part}
+use Rattle.line.proofs.CopyLaws.{copied-behind}
+use Rattle.line.proofs.LaidLaws.{laid_none, laid-length}
 use Rattle.line.proofs.OutcomeLaws.{then_done, map-done, map-refused, met}
 use Rattle.line.proofs.OverlayLaws.{overlay-own}
-use Rattle.line.specs.Answer.{Outcome, done, refused, map_done, and_then, output, Laid, Wrote, copied}
+use Rattle.line.specs.Answer.{Outcome, done, refused, map_done, and_then, output, Laid}
 use Rattle.line.specs.Character.{CR, byte, printable}
 use Rattle.line.specs.Test.{all, before}
 use Rattle.line.specs.Text.{bytes_of}
 use Rattle.line.specs.Transaction.{Fields, none, next, legal}
-use Rattle.line.specs.declared.answer.Written.{Written}
 use Rattle.journal.proofs.CursorLaws.{walk_from_lem, step-place}
 use Rattle.journal.proofs.EncodingLaws.{encode-decode, encode_records}
 use Rattle.journal.proofs.RecordLaws.{record_length, encode-length}
@@ -35,13 +34,10 @@ use Rattle.export.specs.Export.{Adds, Exportable, page_lines, second_field, line
 
 -- ── Bytes behind what is there ──
 
--- a copy to the memory from a place on, which has room
-pub copied_adds : {r : Written} (at : ℕ) (xs out after : List ℕ) → at + length xs ≤ length out →
-    Wrote (copied xs (length (take (length out - at) (drop at out)))) r (take (length out - at) (drop at out)) after →
-    Adds at xs (at + length xs) out (take at out ++ (after ++ drop (length out - at) (drop at out)))
-copied_adds at xs out after h w laid memory d e =
-    let room = part_length at out in
-    laid-part d (omega arith) (record { counts = refl; leaves = copied-laid xs (take (length out - at) (drop at out)) after (omega arith) w })
+-- a part behind a place, filled with bytes
+pub filled_adds : (at k : ℕ) (xs out after : List ℕ) → k ≡ length xs → after ≡ xs → Adds at xs (at + length xs) out (put_mid at k out after)
+filled_adds at k xs out after f h laid memory d e =
+    record { counts = omega (arith, d.counts, length-append laid xs); leaves = copied-behind laid xs memory out after at k d.leaves (sym d.counts) (sym f) h }
 
 -- bytes that are put behind what is there, and have room
 module _ {at end : ℕ} {xs out out' : List ℕ} (adds : Adds at xs end out out') (room : at + length xs ≤ length out) where
@@ -83,7 +79,7 @@ looked_none b p h = record { inside = h; met = refl }
 -- a walk on its way
 module _ (b : List ℕ) (p at : Position) (every : Bool) (l : Looked b p at every) where
   -- one record more
-  pub looked_more : (q : Place) → step_from b at ≡ done (some q) → Looked b p q.next (every && is_page (transaction_at b q))
+  pub looked_more : (q : Place) → step_from b at ≡ done (Some q) → Looked b p q.next (every && is_page (transaction_at b q))
   unfolding all_pages
   looked_more q e =
       let s = step-place b at q e in
@@ -95,7 +91,7 @@ module _ (b : List ℕ) (p at : Position) (every : Bool) (l : Looked b p at ever
       go (refused k) = refl
 
   -- all are met
-  pub looked_all : step_from b at ≡ done none → (if every then done p.left else refused 6) ≡ map_done length (pages_from b p)
+  pub looked_all : step_from b at ≡ done None → (if every then done p.left else refused 6) ≡ map_done length (pages_from b p)
   unfolding all_pages
   looked_all e =
       let (rs, walk, same) = map-done all_pages (walk_from b p) every (l.met ∙ rw (walk_from_lem b at l.inside, e, and-true)) in

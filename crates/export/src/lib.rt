@@ -3,71 +3,57 @@
 
 ghost use Rattle.std.specs.Prelude.{◌≡◌, ◌+◌, ◌≤◌};
 ghost use Rattle.std.proofs.Math.ListN as ListN;
-ghost use Rattle.line.specs.Answer.{Laid, Wrote, checked_as, map_done};
+ghost use Rattle.line.specs.Answer.{Laid, Wrote, map_done, outcome_of};
 ghost use Rattle.export.specs.Export.{Adds, Exportable, lines_of, page_lines, pages_from, pages_in, transactions_of, written_out};
 
 use admission::is_page;
+use journal::Position;
 use journal::cursor::{LENGTH, TRAILER, open, step_back};
-use journal::{Opened, Position, Step};
+use line::Refusal;
 use line::character::CR;
-use line::memory::{copy, find};
-use line::{Checked, Refusal, Written};
+use line::memory::find;
 
 // The longest answer of any journal.
 pub const ROOM: usize = 33024;
 
 // The records, oldest first, as lines PAGE, MESS and SEND, each with CR LF.
-pub fn write_out(journal: &[u8], out: &mut [u8]) -> Written
+pub fn write_out(journal: &[u8], out: &mut [u8]) -> Result<usize, Refusal>
     ensures { Wrote
         (written_out journal.now (ListN.length out.old))
         result out.old out.new }
 {
     if out.len() < ROOM {
-        return Written::Refused(Refusal::Size);
+        return Err(Refusal::Size);
     }
-    let checked = check_pages(journal);
-    if let Checked::Refused(refusal) = checked {
-        return Written::Refused(refusal);
-    }
-    Written::Count(put_pages(journal, out))
+    check_pages(journal)?;
+    Ok(put_pages(journal, out))
 }
 
 // How many records the journal has, or why it is not written out.
-fn check_pages(journal: &[u8]) -> Checked
-    ensures { checked_as result ≡ map_done ListN.length (pages_in journal.now) }
+fn check_pages(journal: &[u8]) -> Result<usize, Refusal>
+    ensures { outcome_of result ≡ map_done ListN.length (pages_in journal.now) }
 {
-    let opened = open(journal);
-    match opened {
-        Opened::At(position) => check_from(journal, position),
-        Opened::Refused(refusal) => Checked::Refused(refusal),
-    }
+    check_from(journal, open(journal)?)
 }
 
 // The same from a position: a record that is no page is told of only where the journal is well formed.
-fn check_from(journal: &[u8], position: Position) -> Checked
+fn check_from(journal: &[u8], position: Position) -> Result<usize, Refusal>
     requires { position.end ≤ ListN.length journal.now }
-    ensures { checked_as result ≡ map_done ListN.length (pages_from journal.now position) }
+    ensures { outcome_of result ≡ map_done ListN.length (pages_from journal.now position) }
 {
     let count = position.left;
     let mut at = position;
     let mut every = true;
-    loop {
-        let step = step_back(journal, at);
-        match step {
-            Step::Record(place) => {
-                let start = place.start;
-                let end = start + place.length;
-                every = every & is_page(&journal[start..end]);
-                at = place.next;
-            }
-            Step::End => {
-                if every {
-                    return Checked::Count(count);
-                }
-                return Checked::Refused(Refusal::Information);
-            }
-            Step::Refused(refusal) => return Checked::Refused(refusal),
-        }
+    while let Some(place) = step_back(journal, at)? {
+        let start = place.start;
+        let end = start + place.length;
+        every &= is_page(&journal[start..end]);
+        at = place.next;
+    }
+    if every {
+        Ok(count)
+    } else {
+        Err(Refusal::Information)
     }
 }
 
@@ -79,6 +65,7 @@ fn put_pages(journal: &[u8], out: &mut [u8]) -> usize
     let end = journal.len() - TRAILER;
     let mut at = 0;
     let mut n = 0;
+    // From record to record, by the lengths found: no `for`.
     while at < end {
         let first = find(journal, at, CR);
         let second = find(journal, first + 1, CR);
@@ -100,11 +87,12 @@ fn put_page(pager: &[u8], message: &[u8], out: &mut [u8], at: usize) -> usize
     put_text(b"\r\nSEND\r\n", out, fourth)
 }
 
-// A text, behind what is there.
+// A text, behind what is there. `listing` has the same: it asks for room, and no public function asks anything.
 fn put_text(text: &[u8], out: &mut [u8], at: usize) -> usize
     requires { at + ListN.length text.now ≤ ListN.length out.old }
     ensures { Adds at text.now result out.old out.new }
 {
-    copy(text, &mut out[at..]);
-    at + text.len()
+    let end = at + text.len();
+    out[at..end].copy_from_slice(text);
+    end
 }

@@ -10,7 +10,7 @@ use lib.Dec.{eqb}
 use lib.ListN.{length, length-map}
 use Rattle.line.specs.Character.{STX, ETX, ETB, US, CR, EOT, textual}
 use Rattle.line.specs.Parity.{with_parity, seven_bits}
-use Rattle.line.specs.Test.{all}
+use Rattle.line.specs.Test.{all, before_first}
 use Rattle.line.proofs.AllLaws.{all_weaken}
 use Rattle.line.proofs.ParityLaws.{all-without_with}
 use Rattle.block.specs.Block.{ending_character, summed, block_of, right, agrees, ends}
@@ -18,8 +18,8 @@ use Rattle.block.specs.Checksum.{checksum, check_characters}
 use Rattle.block.specs.declared.frame.Ending.{Ending}
 use Rattle.block.specs.declared.frame.Ending.TheVariants.{Etx, Etb, Us}
 use Rattle.block.proofs.FrameLaws.{block-length, block-frame, write_read, read_done}
-use Rattle.framer.specs.Framing.{is_ending, before_first, size, Whole, goodbye}
-use Rattle.framer.proofs.FirstLaws.{first-behind, first-map}
+use Rattle.framer.specs.Framing.{is_ending, size, Whole, goodbye}
+use Rattle.line.proofs.FirstLaws.{first-behind, first-map}
 use Rattle.framer.proofs.WholeLaws.{exact_whole}
 
 -- a character of information is no ending

@@ -2,14 +2,15 @@
 -- Two neighbouring pieces can be fed as one, so all can, and one piece drives in one way only. And whole strings come out one by one.
 use mathlib.Core.Bool.{true}
 use mathlib.Core.List.{List, [], ◌∷◌, ◌++◌, flatten, append_assoc, append-nil, Memᴰ}
-use mathlib.Core.Option.{none, some}
+use Rattle.std.specs.Prelude.{None, Some}
 use mathlib.Core.Path.{◌≡◌, refl, sym, ap, subst, ◌∙◌}
 use Prim.Native.Nat.{ℕ, zero, suc, ◌+◌, ◌≤◌}
 use native.Mathlib.Omega.{arith}
 use lib.ListN.{length, drop, length-append, length-drop}
 use lib.Seq.{drop-append-le, drop-append-add, drop-append_seam}
 use Rattle.line.specs.Answer.{done}
-use Rattle.framer.specs.Framing.{is_opening, before_first, Feeding, fed, unfinished, Whole}
+use Rattle.line.specs.Test.{before_first}
+use Rattle.framer.specs.Framing.{is_opening, Feeding, fed, unfinished, Whole}
 use Rattle.framer.specs.Inner.{later}
 use Rattle.framer.specs.State.{state_of, held_in, in_range, fed_to}
 use Rattle.framer.specs.Driver.{Drives, over, spent, waits, hands}
@@ -33,8 +34,8 @@ state-fed h p room f e = let (_, _, same) = done-tested (state_of h) room (fed (
 -- the same as `Drives`, over the bytes held in the place of states
 data Runs : List ℕ → List (List ℕ) → List (List ℕ) → List ℕ → Type 0 where
   ends : {h : List ℕ} → Runs h [] [] h
-  goes : {h h' p : List ℕ} {ps ss : List (List ℕ)} {f : Feeding} → fed h p ≡ f → f.string ≡ none → Runs f.held ps ss h' → Runs h (p ∷ ps) ss h'
-  gives : {h h' p x : List ℕ} {ps ss : List (List ℕ)} {f : Feeding} → fed h p ≡ f → f.string ≡ some x → Runs f.held (drop f.used p ∷ ps) ss h' → Runs h (p ∷ ps) (x ∷ ss) h'
+  goes : {h h' p : List ℕ} {ps ss : List (List ℕ)} {f : Feeding} → fed h p ≡ f → f.string ≡ None → Runs f.held ps ss h' → Runs h (p ∷ ps) ss h'
+  gives : {h h' p x : List ℕ} {ps ss : List (List ℕ)} {f : Feeding} → fed h p ≡ f → f.string ≡ Some x → Runs f.held (drop f.used p ∷ ps) ss h' → Runs h (p ∷ ps) (x ∷ ss) h'
 
 -- a piece that is fed to what another left of a string, fed behind that other
 behind : {x h' q : List ℕ} {qs ss : List (List ℕ)} → Runs x (q ∷ qs) ss h' → (h p : List ℕ) → fed h (p ++ q) ≡ later (length p) (fed x q) → Runs h ((p ++ q) ∷ qs) ss h'
@@ -75,7 +76,7 @@ one {p = p} [] r u = rw (append-nil p) r
 one {p = p} (q ∷ ps) r u = rw (← append_assoc) (one ps (joined r u) u)
 
 -- nothing fed leaves all as it is
-pub fed-nothing : (h : List ℕ) → unfinished h ≡ true → fed h [] ≡ record { string = none; used = 0; held = h }
+pub fed-nothing : (h : List ℕ) → unfinished h ≡ true → fed h [] ≡ record { string = None; used = 0; held = h }
 unfolding before_first
 fed-nothing [] u = fed_skipped [] refl
 fed-nothing (b ∷ bs) u =

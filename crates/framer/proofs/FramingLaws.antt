@@ -4,7 +4,7 @@ use Rattle.std.specs.Prelude.{if◌then◌else◌}
 use mathlib.Core.Bool.{Bool, true, false, and-eq-true_iff}
 use mathlib.Core.List.{List, [], ◌∷◌, ◌++◌, append_assoc}
 use mathlib.Core.Logic.{⊎_elim}
-use mathlib.Core.Option.{none, some}
+use Rattle.std.specs.Prelude.{None, Some}
 use mathlib.Core.Path.{◌≡◌, refl, sym, ap, ◌∙◌}
 use Prim.Native.Nat.{ℕ, suc, ◌+◌, ◌-◌, ◌≤◌, ◌<◌, min}
 use native.Mathlib.Nat.{eq-or-lt_of_le}
@@ -16,9 +16,10 @@ use lib.ListN.{length, get_or, take, drop, length-append, length-drop}
 use lib.Seq.{take-append-le, drop-append-le, drop-append-add, drop-cons, drop-length, take-append-add}
 use Rattle.line.specs.Character.{EOT}
 use Rattle.line.proofs.OutcomeLaws.{choice}
-use Rattle.framer.specs.Framing.{is, is_opening, is_ending, before_first, size, Feeding, fed, unfinished}
+use Rattle.line.specs.Test.{before_first}
+use Rattle.framer.specs.Framing.{is, is_opening, is_ending, size, Feeding, fed, unfinished}
 use Rattle.framer.specs.Inner.{later}
-use Rattle.framer.proofs.FirstLaws.{first-within, first_passes, first_absent, first-behind, first-kept, first_least}
+use Rattle.line.proofs.FirstLaws.{first-within, first_passes, first_absent, first-behind, first-kept, first_least}
 
 -- ── How long a string is to be ──
 
@@ -55,7 +56,7 @@ size-longer b bs u h = omega (arith, size_grows b bs u)
 -- feeding, where so many bytes are skipped and t is left of what is held and what comes, n and m bytes; a string has ended there or not
 abbrev pub chosen : Bool → ℕ → List ℕ → ℕ → ℕ → Feeding
 chosen ended skipped t n m =
-    if ended then record { string = some (take (size t) t); used = skipped + size t - n; held = [] } else record { string = none; used = m; held = t }
+    if ended then record { string = Some (take (size t) t); used = skipped + size t - n; held = [] } else record { string = None; used = m; held = t }
 
 abbrev pub fed_from : ℕ → List ℕ → ℕ → ℕ → Feeding
 fed_from skipped t n m = chosen (leb (size t) (length t)) skipped t n m
@@ -67,20 +68,20 @@ fed_from_lem h p k t e d = rw (e, d)
 
 module _ (k : ℕ) (t : List ℕ) (n m : ℕ) where
   -- no string yet: the string is to be longer than what is left, which is held
-  from_none : (fed_from k t n m).string ≡ none → (length t < size t) × (fed_from k t n m ≡ record { string = none; used = m; held = t })
+  from_none : (fed_from k t n m).string ≡ None → (length t < size t) × (fed_from k t n m ≡ record { string = None; used = m; held = t })
   from_none = go (leb (size t) (length t)) refl
     where
-      go : (b : Bool) → leb (size t) (length t) ≡ b → (chosen b k t n m).string ≡ none → (length t < size t) × (chosen b k t n m ≡ record { string = none; used = m; held = t })
+      go : (b : Bool) → leb (size t) (length t) ≡ b → (chosen b k t n m).string ≡ None → (length t < size t) × (chosen b k t n m ≡ record { string = None; used = m; held = t })
       go true e h = let z : ◌≡◌ {A = ℕ} 0 1 = cc in absurd (omega arith)
       go false e h = (leb-false (size t) (length t) e, refl)
 
   -- a string: what is left is at least as long as it is to be
-  from_some : (s : List ℕ) → (fed_from k t n m).string ≡ some s →
-      (size t ≤ length t) × (fed_from k t n m ≡ record { string = some (take (size t) t); used = k + size t - n; held = [] })
+  from_some : (s : List ℕ) → (fed_from k t n m).string ≡ Some s →
+      (size t ≤ length t) × (fed_from k t n m ≡ record { string = Some (take (size t) t); used = k + size t - n; held = [] })
   from_some s = go (leb (size t) (length t)) refl
     where
-      go : (b : Bool) → leb (size t) (length t) ≡ b → (chosen b k t n m).string ≡ some s →
-          (size t ≤ length t) × (chosen b k t n m ≡ record { string = some (take (size t) t); used = k + size t - n; held = [] })
+      go : (b : Bool) → leb (size t) (length t) ≡ b → (chosen b k t n m).string ≡ Some s →
+          (size t ≤ length t) × (chosen b k t n m ≡ record { string = Some (take (size t) t); used = k + size t - n; held = [] })
       go true e h = (leb-true (size t) (length t) e, refl)
       go false e h = let z : ◌≡◌ {A = ℕ} 0 1 = cc in absurd (omega arith)
 
@@ -114,7 +115,7 @@ from_later k t n m k' n' m' x e u = go (leb (size t) (length t))
 -- nothing is held, and nothing that begins a string comes
 module _ (p : List ℕ) (none-opens : before_first is_opening p ≡ length p) where
   -- nothing is held then
-  pub fed_skipped : fed [] p ≡ record { string = none; used = length p; held = [] }
+  pub fed_skipped : fed [] p ≡ record { string = None; used = length p; held = [] }
   unfolding fed size before_first
   fed_skipped = rw (none-opens, drop-length)
 
@@ -150,7 +151,7 @@ module _ (h p : List ℕ) (k b : ℕ) (bs : List ℕ) (place : before_first is_o
       fed_from_lem h (p ++ q) k (b ∷ bs ++ q) kept behind
 
   -- it goes on: what comes behind is fed to what is held of it
-  begun-later : (fed h p).string ≡ none → (q : List ℕ) → ((fed h p).held ≡ b ∷ bs) × (fed h (p ++ q) ≡ later (length p) (fed (b ∷ bs) q))
+  begun-later : (fed h p).string ≡ None → (q : List ℕ) → ((fed h p).held ≡ b ∷ bs) × (fed h (p ++ q) ≡ later (length p) (fed (b ∷ bs) q))
   begun-later e q =
       let t = b ∷ bs ++ q in
       let now = fed_from_lem h p k (b ∷ bs) place left in
@@ -163,7 +164,7 @@ module _ (h p : List ℕ) (k b : ℕ) (bs : List ℕ) (place : before_first is_o
       (ap (λ f. f.held) (now ∙ is), fed-more q ∙ same ∙ ap (later (length p)) (sym next))
 
   -- it has ended: what comes behind changes nothing
-  begun_sooner : (s : List ℕ) → (fed h p).string ≡ some s → (q : List ℕ) → fed h (p ++ q) ≡ fed h p
+  begun_sooner : (s : List ℕ) → (fed h p).string ≡ Some s → (q : List ℕ) → fed h (p ++ q) ≡ fed h p
   begun_sooner s e q =
       let now = fed_from_lem h p k (b ∷ bs) place left in
       let (ended, is) = from_some k (b ∷ bs) (length h) (length p) s (rw now at e) in
@@ -171,7 +172,7 @@ module _ (h p : List ℕ) (k b : ℕ) (bs : List ℕ) (place : before_first is_o
       fed-more q ∙ rw (size-kept b bs q ended, le-leb (size (b ∷ bs)) (length (b ∷ bs ++ q)) within, take-append-le (size (b ∷ bs)) (b ∷ bs) q ended) (sym (now ∙ is))
 
 -- bytes that completed no string, and bytes behind them: as if these had come to what is held
-pub fed-later : (h p q : List ℕ) → unfinished h ≡ true → (fed h p).string ≡ none → fed h (p ++ q) ≡ later (length p) (fed (fed h p).held q)
+pub fed-later : (h p q : List ℕ) → unfinished h ≡ true → (fed h p).string ≡ None → fed h (p ++ q) ≡ later (length p) (fed (fed h p).held q)
 fed-later h p q u e = go (beginning h p u)
   where
     go : Beginning h p → fed h (p ++ q) ≡ later (length p) (fed (fed h p).held q)
@@ -179,7 +180,7 @@ fed-later h p q u e = go (beginning h p u)
     go (somewhere k b bs place inside left opens) = let (held, is) = begun-later h p k b bs place inside left opens e q in rw held is
 
 -- bytes that completed a string, and bytes behind them: these change nothing
-pub fed_sooner : (h p q s : List ℕ) → unfinished h ≡ true → (fed h p).string ≡ some s → fed h (p ++ q) ≡ fed h p
+pub fed_sooner : (h p q s : List ℕ) → unfinished h ≡ true → (fed h p).string ≡ Some s → fed h (p ++ q) ≡ fed h p
 fed_sooner h p q s u e = go (beginning h p u)
   where
     go : Beginning h p → fed h (p ++ q) ≡ fed h p
@@ -200,12 +201,12 @@ held-longer (b ∷ bs) p u some-held = size-longer b bs p (held-opens b bs u).1
 
 module _ (h p : List ℕ) (u : unfinished h ≡ true) (some-held : 1 ≤ length h) where
   -- the string wants more than these: they are held too
-  pub fed-held : length p < size (h ++ p) - length h → fed h p ≡ record { string = none; used = length p; held = h ++ p }
+  pub fed-held : length p < size (h ++ p) - length h → fed h p ≡ record { string = None; used = length p; held = h ++ p }
   fed-held few = fed-on h p u some-held ∙ rw (lt-leb (size (h ++ p)) (length (h ++ p)) (omega (arith, length-append h p)))
 
   -- it takes as many as it wants, and is handed over
   pub fed-handed : size (h ++ p) - length h ≤ length p →
-      fed h p ≡ record { string = some (h ++ take (size (h ++ p) - length h) p); used = size (h ++ p) - length h; held = [] }
+      fed h p ≡ record { string = Some (h ++ take (size (h ++ p) - length h) p); used = size (h ++ p) - length h; held = [] }
   fed-handed enough =
       let n = size (h ++ p) - length h in
       let longer = held-longer h p u some-held in
@@ -215,7 +216,7 @@ module _ (h p : List ℕ) (u : unfinished h ≡ true) (some-held : 1 ≤ length 
       fed-on h p u some-held ∙ rw (le-leb (size (h ++ p)) (length (h ++ p)) (omega (arith, length-append h p)), string, used)
 
 -- nothing is held, and what comes begins a string and goes on
-pub fed_alone : (b : ℕ) (bs : List ℕ) → is_opening b ≡ true → length (b ∷ bs) < size (b ∷ bs) → fed [] (b ∷ bs) ≡ record { string = none; used = length (b ∷ bs); held = b ∷ bs }
+pub fed_alone : (b : ℕ) (bs : List ℕ) → is_opening b ≡ true → length (b ∷ bs) < size (b ∷ bs) → fed [] (b ∷ bs) ≡ record { string = None; used = length (b ∷ bs); held = b ∷ bs }
 fed_alone b bs opens short = fed_from_lem [] (b ∷ bs) 0 (b ∷ bs) (opens-first b bs opens) refl ∙ rw (lt-leb (size (b ∷ bs)) (length (b ∷ bs)) short)
 
 -- nothing is held: bytes before the first STX or EOT are skipped, and a string begins with that

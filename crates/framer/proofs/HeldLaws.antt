@@ -10,10 +10,10 @@ use lib.ListN.{length, get_or, take, drop, length-drop}
 use lib.Seq.{drop-drop}
 use Rattle.line.specs.Character.{STX, EOT}
 use Rattle.line.specs.Parity.{seven_bits}
-use Rattle.line.specs.Test.{all}
+use Rattle.line.specs.Test.{all, before_first}
 use Rattle.line.proofs.ListLaws.{length_none}
-use Rattle.framer.specs.Framing.{is, is_opening, is_ending, before_first, size, unfinished}
-use Rattle.framer.proofs.FirstLaws.{first-within, first_absent, first-behind, first-kept, first-all, first_from, first-take}
+use Rattle.framer.specs.Framing.{is, is_opening, is_ending, size, unfinished}
+use Rattle.line.proofs.FirstLaws.{first-within, first_absent, first-behind, first-kept, first-all, first_from, first-take}
 use Rattle.framer.proofs.FramingLaws.{size_bounds, held-opens}
 
 -- ── What can be held, as the code tests it ──

@@ -1,6 +1,5 @@
 pub mod BlockLaws
 pub mod DriverLaws
-pub mod FirstLaws
 pub mod FramingLaws
 pub mod HeldLaws
 pub mod ReachedLaws

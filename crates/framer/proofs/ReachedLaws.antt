@@ -1,7 +1,7 @@
 -- The start leads to the states in range, and to no others: what feeding leaves can be held, and what can be held is held again where it is fed to nothing.
 use mathlib.Core.Bool.{true}
 use mathlib.Core.List.{List, [], ◌∷◌}
-use mathlib.Core.Option.{none}
+use Rattle.std.specs.Prelude.{None}
 use mathlib.Core.Path.{◌≡◌, refl, ap, ◌∙◌}
 use Prim.Native.Nat.{ℕ}
 use native.Mathlib.Omega.{arith}
@@ -24,7 +24,7 @@ reached_in_range (onward {s} {f} before bytes room e) =
 reached_in_range (emptied before room e) = state_in_range_lem [] refl
 
 -- what can be held is held where it is fed to nothing
-held-again : (h : List ℕ) → unfinished h ≡ true → fed [] h ≡ record { string = none; used = length h; held = h }
+held-again : (h : List ℕ) → unfinished h ≡ true → fed [] h ≡ record { string = None; used = length h; held = h }
 unfolding unfinished
 held-again [] u = fed-nothing [] u
 held-again (b ∷ bs) u = fed_alone b bs (held-opens b bs u).0 (held-opens b bs u).1

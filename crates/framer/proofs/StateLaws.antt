@@ -1,7 +1,7 @@
 -- Laws of the saved state: a state in range is that of the bytes it holds, which can be held; the order of refusals; and the ways to have `Feeds` and `Flushes`.
 use mathlib.Core.Bool.{true, false, not, and-eq-true_iff}
 use mathlib.Core.List.{List, []}
-use mathlib.Core.Option.{none, some}
+use Rattle.std.specs.Prelude.{Result, Ok, Err, None, Some}
 use mathlib.Core.Path.{◌≡◌, refl, sym, ◌∙◌}
 use Prim.Native.Nat.{ℕ, ◌-◌, ◌≤◌, ◌<◌}
 use native.Mathlib.Nat.{zero-add}
@@ -13,8 +13,6 @@ use lib.Seq.{take_all, take_at, drop_at}
 use Rattle.line.specs.Answer.{Outcome, done, refused, refusal_number, overlay, copied, Wrote}
 use Rattle.line.specs.Test.{all}
 use Rattle.line.specs.declared.answer.Refusal.{Refusal}
-use Rattle.line.specs.declared.answer.Written.{Written}
-use Rattle.line.specs.declared.answer.Written.TheVariants.{Refused}
 use Rattle.line.proofs.AllLaws.{zeros, all-zeros, zeros-drop}
 use Rattle.line.proofs.OutcomeLaws.{passed}
 use Rattle.line.proofs.OverlayLaws.{overlay-none, overlay-start, wrote-refused}
@@ -23,7 +21,6 @@ use Rattle.framer.specs.Inner.{refusing, later}
 use Rattle.framer.specs.State.{blank, state_of, held_in, in_range, tested, Feeds, Flushes}
 use Rattle.framer.specs.declared.Framer.{Framer}
 use Rattle.framer.specs.declared.Fed.{Fed}
-use Rattle.framer.specs.declared.Framed.TheVariants.{Whole, Partial}
 use Rattle.framer.proofs.HeldLaws.{held-long, held-short}
 
 -- ── Zeros ──
@@ -109,13 +106,13 @@ pub feeds_refused : {o : Outcome Feeding} (s : Framer) (q : Refusal) (m : List �
 feeds_refused s q m e = record { answers = rw e; uses = rw e; next = rw e; leaves = rw e (overlay-none m) }
 
 -- none yet
-pub feeds_none : {o : Outcome Feeding} (s next : Framer) (used : ℕ) (held m : List ℕ) → o ≡ done (record { string = none; used = used; held = held }) → next ≡ state_of held →
-    Feeds o s (record { outcome = Partial; used = used; state = next }) m m
+pub feeds_none : {o : Outcome Feeding} (s next : Framer) (used : ℕ) (held m : List ℕ) → o ≡ done (record { string = None; used = used; held = held }) → next ≡ state_of held →
+    Feeds o s (record { outcome = Ok None; used = used; state = next }) m m
 feeds_none s next used held m e n = record { answers = rw e; uses = rw e; next = n ∙ rw e; leaves = rw e (overlay-none m) }
 
 -- a string
-pub feeds_some : {o : Outcome Feeding} (s next : Framer) (n used : ℕ) (x before after : List ℕ) → o ≡ done (record { string = some x; used = used; held = [] }) → n ≡ length x → next ≡ state_of [] →
-    after ≡ overlay x before → Feeds o s (record { outcome = Whole n; used = used; state = next }) before after
+pub feeds_some : {o : Outcome Feeding} (s next : Framer) (n used : ℕ) (x before after : List ℕ) → o ≡ done (record { string = Some x; used = used; held = [] }) → n ≡ length x → next ≡ state_of [] →
+    after ≡ overlay x before → Feeds o s (record { outcome = Ok (Some n); used = used; state = next }) before after
 feeds_some s next n used x before after e c start l = record { answers = rw (e, c) refl; uses = rw e; next = start ∙ rw e; leaves = l ∙ rw e }
 
 -- what is done is so whatever the state was
@@ -127,11 +124,11 @@ pub later-none : (f : Feeding) → later 0 f ≡ f
 later-none f = rw zero-add
 
 -- a refusal of the flush
-pub flushes_refused : {o : Outcome (List ℕ)} (s : Framer) (q : Refusal) (m : List ℕ) → o ≡ refused (refusal_number q) → Flushes o s (record { outcome = Refused q; state = s }) m m
+pub flushes_refused : {o : Outcome (List ℕ)} (s : Framer) (q : Refusal) (m : List ℕ) → o ≡ refused (refusal_number q) → Flushes o s (record { outcome = Err q; state = s }) m m
 flushes_refused s q m e = record { wrote = wrote-refused q m e; next = rw e }
 
 -- what is held is copied out, and nothing is held behind it
-pub flushes_done : {o : Outcome (List ℕ)} (s next : Framer) (r : Written) (before after : List ℕ) → o ≡ done (held_in s) → length (held_in s) ≤ length before →
+pub flushes_done : {o : Outcome (List ℕ)} (s next : Framer) (r : Result ℕ Refusal) (before after : List ℕ) → o ≡ done (held_in s) → length (held_in s) ≤ length before →
     Wrote (copied (held_in s) (length before)) r before after → next ≡ state_of [] → Flushes o s (record { outcome = r; state = next }) before after
 unfolding copied
 flushes_done s next r before after e fits w start =

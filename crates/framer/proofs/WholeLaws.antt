@@ -3,7 +3,7 @@
 use Rattle.std.specs.Prelude.{if◌then◌else◌}
 use mathlib.Core.Bool.{Bool, true, false, not, or-true, or-false}
 use mathlib.Core.List.{List, [], ◌∷◌, ◌++◌}
-use mathlib.Core.Option.{none, some}
+use Rattle.std.specs.Prelude.{None, Some}
 use mathlib.Core.Path.{◌≡◌, refl, sym, ap, subst, ◌∙◌}
 use Prim.Native.Nat.{ℕ, suc, ◌+◌, ◌-◌, ◌≤◌, ◌<◌, min}
 use native.Mathlib.Omega.{arith}
@@ -14,8 +14,9 @@ use lib.Seq.{length-take-le, split_at, take-take, take_at}
 use Rattle.line.specs.Character.{STX, EOT}
 use Rattle.line.specs.Parity.{seven_bits}
 use Rattle.line.proofs.AllLaws.{all_take}
-use Rattle.framer.specs.Framing.{is, is_opening, is_ending, before_first, size, fed, unfinished, Whole, goodbye, block, full}
-use Rattle.framer.proofs.FirstLaws.{first_passes, first-before, first-behind}
+use Rattle.line.specs.Test.{before_first}
+use Rattle.framer.specs.Framing.{is, is_opening, is_ending, size, fed, unfinished, Whole, goodbye, block, full}
+use Rattle.line.proofs.FirstLaws.{first_passes, first-before, first-behind}
 use Rattle.framer.proofs.FramingLaws.{size_bounds, size_grows, size-kept, size-longer, fed_from_lem, opens-first, held-opens, held-begun, Beginning, nowhere, somewhere, beginning, fed_skipped}
 
 -- STX is not EOT
@@ -94,7 +95,7 @@ taken-whole b bs opens ended = go (size (b ∷ bs) - 1) (omega (arith, size_boun
         rw e (exact_whole b u opens (omega arith))
 
 -- a whole string that meets nothing held is handed over, whatever comes behind it
-pub whole-fed : {s : List ℕ} → Whole s → (q : List ℕ) → fed [] (s ++ q) ≡ record { string = some s; used = length s; held = [] }
+pub whole-fed : {s : List ℕ} → Whole s → (q : List ℕ) → fed [] (s ++ q) ≡ record { string = Some s; used = length s; held = [] }
 whole-fed {s} w q =
     let x = whole_exact w in
     let b = x.first in
@@ -109,8 +110,8 @@ whole-fed {s} w q =
 
 -- no string yet, all bytes used and what is left held; or a whole string, some of the bytes used and nothing held
 pub data Comes (h p : List ℕ) : Type 0 where
-  waiting : (held : List ℕ) → fed h p ≡ record { string = none; used = length p; held = held } → unfinished held ≡ true → Comes h p
-  handing : (s : List ℕ) (used : ℕ) → fed h p ≡ record { string = some s; used = used; held = [] } → Whole s → 1 ≤ used → used ≤ length p → Comes h p
+  waiting : (held : List ℕ) → fed h p ≡ record { string = None; used = length p; held = held } → unfinished held ≡ true → Comes h p
+  handing : (s : List ℕ) (used : ℕ) → fed h p ≡ record { string = Some s; used = used; held = [] } → Whole s → 1 ≤ used → used ≤ length p → Comes h p
 
 -- a string that was to be longer than what was held takes a byte at least
 longer-held : (h p : List ℕ) (k b : ℕ) (bs : List ℕ) → unfinished h ≡ true → before_first is_opening (h ++ p) ≡ k → drop k (h ++ p) ≡ b ∷ bs → length h < k + size (b ∷ bs)
@@ -142,7 +143,7 @@ fed-comes h p u = go (beginning h p u)
     go (somewhere k b bs place inside left opens) = begun k b bs place inside left opens (leb (size (b ∷ bs)) (length (b ∷ bs))) refl
 
 -- every string that is handed over is whole
-pub fed-whole : (h p s : List ℕ) → unfinished h ≡ true → (fed h p).string ≡ some s → Whole s
+pub fed-whole : (h p s : List ℕ) → unfinished h ≡ true → (fed h p).string ≡ Some s → Whole s
 fed-whole h p s u e = go (fed-comes h p u)
   where
     go : Comes h p → Whole s

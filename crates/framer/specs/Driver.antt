@@ -1,6 +1,5 @@
 -- What a driver does that feeds bytes piece after piece, and what it gets.
-use Rattle.std.specs.Prelude.{List, [], ◌∷◌, ◌≡◌, ℕ, drop}
-use Rattle.std.proofs.Math.Option.{none, some}
+use Rattle.std.specs.Prelude.{List, [], ◌∷◌, ◌≡◌, ℕ, drop, Some, None}
 use Rattle.line.specs.Answer.{done}
 use Rattle.framer.specs.Framing.{Feeding}
 use Rattle.framer.specs.State.{state_of, fed_to}
@@ -13,8 +12,8 @@ pub data Drives : Framer → List (List ℕ) → List (List ℕ) → Framer → 
   -- nothing is left of the piece, or it was empty: it need not be fed
   spent : {s s' : Framer} {ps ss : List (List ℕ)} → Drives s ps ss s' → Drives s ([] ∷ ps) ss s'
   -- the piece completes no string: all of it is used, and the next is fed
-  waits : {s s' : Framer} {p : List ℕ} {ps ss : List (List ℕ)} {f : Feeding} (room : ℕ) → fed_to s p room ≡ done f → f.string ≡ none →
+  waits : {s s' : Framer} {p : List ℕ} {ps ss : List (List ℕ)} {f : Feeding} (room : ℕ) → fed_to s p room ≡ done f → f.string ≡ None →
       Drives (state_of f.held) ps ss s' → Drives s (p ∷ ps) ss s'
   -- the piece completes a string: what is left of it is fed
-  hands : {s s' : Framer} {p x : List ℕ} {ps ss : List (List ℕ)} {f : Feeding} (room : ℕ) → fed_to s p room ≡ done f → f.string ≡ some x →
+  hands : {s s' : Framer} {p x : List ℕ} {ps ss : List (List ℕ)} {f : Feeding} (room : ℕ) → fed_to s p room ≡ done f → f.string ≡ Some x →
       Drives (state_of f.held) (drop f.used p ∷ ps) ss s' → Drives s (p ∷ ps) (x ∷ ss) s'

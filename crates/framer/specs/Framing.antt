@@ -1,10 +1,9 @@
 -- How the bytes that a wire brings make strings for the central's Block stage (document 02, wish 1: the collector).
 -- Over bytes as they came; what they are is judged on their low seven bits.
-use Rattle.std.specs.Prelude.{Bool, true, not, ◌&&◌, ◌||◌, List, [], ◌∷◌, ◌++◌, ◌≡◌, ℕ, suc, ◌+◌, ◌-◌, ◌≤◌, min, leb, ltb, eqb, length, take, drop, get_or, if◌then◌else◌}
-use Rattle.std.proofs.Math.Option.{Option, none, some}
+use Rattle.std.specs.Prelude.{Bool, true, not, ◌&&◌, ◌||◌, List, [], ◌∷◌, ◌++◌, ◌≡◌, ℕ, ◌+◌, ◌-◌, ◌≤◌, min, leb, ltb, eqb, length, take, drop, get_or, Option, Some, None, if◌then◌else◌}
 use Rattle.line.specs.Character.{STX, EOT}
 use Rattle.line.specs.Parity.{seven_bits}
-use Rattle.line.specs.Test.{all}
+use Rattle.line.specs.Test.{all, before_first}
 use Rattle.block.specs.Block.{ends}
 
 -- a byte is this character, judged on its low seven bits (R-14.1)
@@ -18,11 +17,6 @@ is_opening b = is STX b || is EOT b
 -- a byte that is an ending: ETX, ETB or US (R-14.1)
 abbrev pub is_ending : ℕ → Bool
 is_ending b = ends (seven_bits b)
-
--- how many bytes stand before the first that passes the test; all of them where none does
-unfoldable pub before_first : (ℕ → Bool) → List ℕ → ℕ
-before_first p [] = 0
-before_first p (b ∷ bs) = if p b then 0 else suc (before_first p bs)
 
 -- how long the string is that begins with these bytes: from EOT two characters; from STX up to four characters behind the
 -- first ending, and at most 256 (STX, those before the ending, the ending and four are 6 more than those before it) (R-14.2)
@@ -42,8 +36,8 @@ fed held bytes =
     let stream = held ++ bytes in
     let skipped = before_first is_opening stream in
     let t = drop skipped stream in
-    if leb (size t) (length t) then record { string = some (take (size t) t); used = skipped + size t - length held; held = [] }
-    else record { string = none; used = length bytes; held = t }
+    if leb (size t) (length t) then record { string = Some (take (size t) t); used = skipped + size t - length held; held = [] }
+    else record { string = None; used = length bytes; held = t }
 
 -- what can be held: nothing, or the start of a string, from STX or EOT on, that is shorter than the string is to be (R-14.4)
 unfoldable pub unfinished : List ℕ → Bool

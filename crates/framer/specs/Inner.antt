@@ -1,14 +1,13 @@
 -- What the functions inside a feeding ask and owe.
-use Rattle.std.specs.Prelude.{true, List, ◌≡◌, ℕ, ◌+◌, ◌≤◌, length}
+use Rattle.std.specs.Prelude.{true, List, ◌≡◌, ℕ, ◌+◌, ◌≤◌, length, Err}
 use Rattle.line.specs.declared.answer.Refusal.{Refusal}
 use Rattle.framer.specs.Framing.{Feeding, unfinished}
 use Rattle.framer.specs.declared.Fed.{Fed}
-use Rattle.framer.specs.declared.Framed.TheVariants.{Refused}
 use Rattle.framer.specs.declared.Framer.{Framer}
 
 -- a refusal: no byte is used, and the state stays
 abbrev pub refusing : Framer → Refusal → Fed
-refusing s q = record { outcome = Refused q; used = 0; state = s }
+refusing s q = record { outcome = Err q; used = 0; state = s }
 
 -- the same feeding, counted from so many bytes further back
 abbrev pub later : ℕ → Feeding → Feeding

@@ -1,12 +1,9 @@
 -- The framer's saved state, what its functions owe, and which states its start can lead to.
-use Rattle.std.specs.Prelude.{Bool, not, ◌&&◌, List, [], ◌≡◌, ℕ, eqb, ltb, length, take, drop, replicate, if◌then◌else◌}
-use Rattle.std.proofs.Math.Option.{Option, none, some, get_or, map}
-use Rattle.line.specs.Answer.{Outcome, done, refused, refusal_number, map_done, count_of, output, overlay, Wrote}
+use Rattle.std.specs.Prelude.{Bool, not, ◌&&◌, List, [], ◌≡◌, ℕ, eqb, ltb, length, take, drop, replicate, option_map, unwrap_or, if◌then◌else◌}
+use Rattle.line.specs.Answer.{Outcome, done, refused, map_done, count_of, output, outcome_of, overlay, Wrote}
 use Rattle.line.specs.Test.{all}
 use Rattle.framer.specs.Framing.{Feeding, fed, unfinished}
 use Rattle.framer.specs.declared.Framer.{Framer}
-use Rattle.framer.specs.declared.Framed.{Framed}
-use Rattle.framer.specs.declared.Framed.TheVariants.{Whole, Partial, Refused}
 use Rattle.framer.specs.declared.Fed.{Fed}
 use Rattle.framer.specs.declared.Flushed.{Flushed}
 
@@ -44,20 +41,14 @@ abbrev pub state_after : Framer → Outcome (List ℕ) → Framer
 state_after s (done h) = state_of h
 state_after s (refused n) = s
 
--- an answer in document 01's numbers: 0 with the length of the string, or with none yet; or the refusal's number
-abbrev pub framed_as : Framed → Outcome (Option ℕ)
-framed_as (Whole n) = done (some n)
-framed_as Partial = done none
-framed_as (Refused r) = refused (refusal_number r)
-
 -- the string that a feeding hands over: no bytes where none is complete yet (R-14.3)
 abbrev pub handed : Feeding → List ℕ
-handed f = get_or f.string []
+handed f = unwrap_or f.string []
 
 -- what `feed` owes (R-14.3)
 pub record Feeds (o : Outcome Feeding) (s : Framer) (r : Fed) (before after : List ℕ) : Type 0 where
   -- the string's length, none yet, or the refusal
-  pub answers : framed_as r.outcome ≡ map_done (λ f. map length f.string) o
+  pub answers : outcome_of r.outcome ≡ map_done (λ f. option_map length f.string) o
   -- how many bytes were used: none where it is refused
   pub uses : r.used ≡ count_of (map_done (λ f. f.used) o)
   -- the state behind it

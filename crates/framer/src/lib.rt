@@ -4,17 +4,18 @@
 
 mod kind;
 
-ghost use Rattle.std.specs.Prelude.{true, [], ◌++◌, ◌≡◌, ◌+◌, ◌^◌, ◌<◌, ◌≤◌, min};
+ghost use Rattle.std.specs.Prelude.{true, [], ◌++◌, ◌≡◌, ◌+◌, ◌^◌, ◌<◌, ◌≤◌};
 ghost use Rattle.std.proofs.Math.ListN as ListN;
 ghost use Rattle.line.specs.Answer.{done};
 ghost use Rattle.framer.specs.Framing as Framing;
 ghost use Rattle.framer.specs.Inner.{Begun, later, refusing};
 ghost use Rattle.framer.specs.State.{Feeds, Flushes, fed_to, flushed, in_range, state_of};
 
-use crate::kind::{Kind, are, seek};
+use crate::kind::Kind;
+use line::Refusal;
 use line::character::{EOT, STX};
 use line::memory::copy;
-use line::{Refusal, Written};
+use line::test::{Is, every, seek};
 
 // The longest string, and the least room that an output has.
 pub const STRING: usize = 256;
@@ -22,7 +23,7 @@ pub const STRING: usize = 256;
 // How many characters stand in a block from its ending on.
 const TAIL: usize = 5;
 
-// The bytes held, as they came, and zeros behind them.
+// The bytes held, as they came, and zeros behind them. An array with its length beside: there is no heap, and C has this record.
 #[repr(C)]
 #[derive(Clone, Copy)]
 pub struct Framer {
@@ -30,28 +31,19 @@ pub struct Framer {
     pub length: usize,
 }
 
-// What feeding answers.
-#[derive(Clone, Copy)]
-pub enum Framed {
-    // A string, of this length, at the start of the output.
-    Whole(usize),
-    // None is complete yet.
-    Partial,
-    Refused(Refusal),
-}
-
-// The answer, how many bytes were used, and the state behind them.
+// The length of the string that lies at the start of the output, nothing while none is complete, or
+// the refusal; how many bytes were used; and the state behind them, which a refusal hands back too.
 #[derive(Clone, Copy)]
 pub struct Fed {
-    pub outcome: Framed,
+    pub outcome: Result<Option<usize>, Refusal>,
     pub used: usize,
     pub state: Framer,
 }
 
-// The string put out, or the refusal; and the state behind it.
+// The string put out, or the refusal; and the state behind it, which a refusal hands back too.
 #[derive(Clone, Copy)]
 pub struct Flushed {
-    pub outcome: Written,
+    pub outcome: Result<usize, Refusal>,
     pub state: Framer,
 }
 
@@ -71,16 +63,14 @@ pub fn feed(state: Framer, bytes: &[u8], out: &mut [u8]) -> Fed
         (fed_to state bytes.now (ListN.length out.old))
         state result out.old out.new }
 {
-    let held = state.held;
-    let length = state.length;
-    if !is_in_range(&held, length) {
+    if !is_in_range(&state) {
         return refuse(state, Refusal::Range);
     }
     if out.len() < STRING {
         return refuse(state, Refusal::Size);
     }
-    if 0 < length {
-        return go_on(&held[..length], bytes, 0, out);
+    if 0 < state.length {
+        return go_on(&state.held[..state.length], bytes, 0, out);
     }
     begin(bytes, out)
 }
@@ -91,21 +81,19 @@ pub fn flush(state: Framer, out: &mut [u8]) -> Flushed
         (flushed state (ListN.length out.old))
         state result out.old out.new }
 {
-    let held = state.held;
-    let length = state.length;
-    if !is_in_range(&held, length) {
+    if !is_in_range(&state) {
         return Flushed {
-            outcome: Written::Refused(Refusal::Range),
+            outcome: Err(Refusal::Range),
             state,
         };
     }
     if out.len() < STRING {
         return Flushed {
-            outcome: Written::Refused(Refusal::Size),
+            outcome: Err(Refusal::Size),
             state,
         };
     }
-    let outcome = copy(&held[..length], out);
+    let outcome = copy(&state.held[..state.length], out);
     let emptied = start();
     Flushed {
         outcome,
@@ -118,7 +106,7 @@ fn refuse(state: Framer, refusal: Refusal) -> Fed
     ensures { result ≡ refusing state refusal }
 {
     Fed {
-        outcome: Framed::Refused(refusal),
+        outcome: Err(refusal),
         used: 0,
         state,
     }
@@ -133,7 +121,7 @@ fn begin(bytes: &[u8], out: &mut [u8]) -> Fed
     let at = seek(bytes, 0, Kind::Opening);
     if bytes.len() <= at {
         return Fed {
-            outcome: Framed::Partial,
+            outcome: Ok(None),
             used: at,
             state: start(),
         };
@@ -154,15 +142,15 @@ fn go_on(held: &[u8], bytes: &[u8], before: usize, out: &mut [u8]) -> Fed
     let wanted = size - n;
     if bytes.len() < wanted {
         return Fed {
-            outcome: Framed::Partial,
+            outcome: Ok(None),
             used: before + bytes.len(),
             state: hold(held, bytes),
         };
     }
-    copy(held, out);
-    copy(&bytes[..wanted], &mut out[n..]);
+    out[..n].copy_from_slice(held);
+    out[n..size].copy_from_slice(&bytes[..wanted]);
     Fed {
-        outcome: Framed::Whole(size),
+        outcome: Ok(Some(size)),
         used: before + wanted,
         state: start(),
     }
@@ -174,13 +162,13 @@ fn hold(held: &[u8], bytes: &[u8]) -> Framer
     ensures { result ≡ state_of (held.now ++ bytes.now) }
 {
     let n = held.len();
-    let empty = start();
-    let mut array = empty.held;
-    copy(held, &mut array);
-    copy(bytes, &mut array[n..]);
+    let length = n + bytes.len();
+    let mut array = start().held;
+    array[..n].copy_from_slice(held);
+    array[n..length].copy_from_slice(bytes);
     Framer {
         held: array,
-        length: n + bytes.len(),
+        length,
     }
 }
 
@@ -197,21 +185,21 @@ fn size(held: &[u8], bytes: &[u8]) -> usize
     let from = if n < TAIL { 1 } else { n - 4 };
     let end = seek(held, from, Kind::Ending);
     if end < n {
-        return least(end + TAIL, STRING);
+        return (end + TAIL).min(STRING);
     }
-    let most = least(bytes.len(), STRING - n);
-    least(n + seek(&bytes[..most], 0, Kind::Ending) + TAIL, STRING)
+    let most = bytes.len().min(STRING - n);
+    (n + seek(&bytes[..most], 0, Kind::Ending) + TAIL).min(STRING)
 }
 
 // The start can lead to the state.
-fn is_in_range(held: &[u8], length: usize) -> bool
-    requires { 256 ≡ ListN.length held.now }
-    ensures { result ≡ in_range (record { held = held.entry.now; length = length }) }
+fn is_in_range(state: &Framer) -> bool
+    ensures { result ≡ in_range state.now }
 {
-    if STRING <= length {
+    if STRING <= state.length {
         return false;
     }
-    is_unfinished(&held[..length]) & are(&held[length..], Kind::Zero)
+    let (held, rest) = state.held.split_at(state.length);
+    is_unfinished(held) & every(rest, Is { byte: 0 })
 }
 
 // Nothing, or the start of a string that goes on.
@@ -232,11 +220,5 @@ fn is_unfinished(held: &[u8]) -> bool
     if n < TAIL {
         return true;
     }
-    (n < STRING) & are(&held[1..n - 4], Kind::Inner)
-}
-
-fn least(a: usize, b: usize) -> usize
-    ensures { result ≡ min a b }
-{
-    if a < b { a } else { b }
+    (n < STRING) & every(&held[1..n - 4], Kind::Inner)
 }

@@ -1,8 +1,7 @@
 -- Reading through the cursor hands out what the walk back gives, whatever the bytes are: a step takes one transaction off the walk.
-use Rattle.std.specs.Prelude.{if◌then◌else◌}
+use Rattle.std.specs.Prelude.{Option, None, Some, if◌then◌else◌}
 use mathlib.Core.Bool.{Bool, true, false}
 use mathlib.Core.List.{List, [], ◌∷◌, ◌++◌, append_assoc}
-use mathlib.Core.Option.{Option, none, some}
 use mathlib.Core.Path.{◌≡◌, refl, sym, ap, ◌∙◌}
 use Prim.Native.Nat.{ℕ, zero, suc, ◌+◌, ◌-◌, ◌≤◌, ◌<◌}
 use native.Mathlib.Numerals.{add-one}
@@ -40,12 +39,12 @@ met_at b e left m k h =
     (front, here, omega (arith, length-drop (length (take e b) - 2) (take e b)), good)
 
 -- a step with no record left
-step_end : (b : List ℕ) (e : ℕ) → e ≤ length b → step_from b (record { end = e; left = 0 }) ≡ (if eqb e 0 then done none else refused 7)
+step_end : (b : List ℕ) (e : ℕ) → e ≤ length b → step_from b (record { end = e; left = 0 }) ≡ (if eqb e 0 then done None else refused 7)
 unfolding step_from
 step_end b e h = rw (le-ltb (length b) e h)
 
 -- a step with records left
-step-on : (b : List ℕ) (e k : ℕ) → e ≤ length b → step_from b (record { end = e; left = suc k }) ≡ map_done (λ m. some (place_of (suc k) m)) (step_back (take e b))
+step-on : (b : List ℕ) (e k : ℕ) → e ≤ length b → step_from b (record { end = e; left = suc k }) ≡ map_done (λ m. Some (place_of (suc k) m)) (step_back (take e b))
 unfolding step_from
 step-on b e k h = rw (le-ltb (length b) e h, eqb-suc-zero k)
 
@@ -54,12 +53,12 @@ pub walk_from_lem : (b : List ℕ) (p : Position) → p.end ≤ length b → wal
 unfolding walk_back
 walk_from_lem b p h = by_left p.left p.end h
   where
-    empty : (t : Bool) → (if t then done [] else refused 7) ≡ and_then (if t then done none else refused 7) (hand_on b (walk_from b))
+    empty : (t : Bool) → (if t then done [] else refused 7) ≡ and_then (if t then done None else refused 7) (hand_on b (walk_from b))
     empty true = refl
     empty false = refl
 
     on : (k e : ℕ) → e ≤ length b → (o : Outcome Met) → step_back (take e b) ≡ o →
-        and_then o (λ m. map_done (λ ts. m.transaction ∷ ts) (walk_back k m.before)) ≡ and_then (map_done (λ m. some (place_of (suc k) m)) o) (hand_on b (walk_from b))
+        and_then o (λ m. map_done (λ ts. m.transaction ∷ ts) (walk_back k m.before)) ≡ and_then (map_done (λ m. Some (place_of (suc k) m)) o) (hand_on b (walk_from b))
     on k e h (refused n) s = refl
     on k e h (done m) s =
         let (front, at, _, _) = met_at b e (suc k) m h s in
@@ -79,30 +78,30 @@ pub record Stepped (b : List ℕ) (p : Position) (q : Place) : Type 0 where
   pub good : legal (transaction_at b q) ≡ true
 
 -- a step that hands out a place
-pub step-place : (b : List ℕ) (p : Position) (q : Place) → step_from b p ≡ done (some q) → Stepped b p q
+pub step-place : (b : List ℕ) (p : Position) (q : Place) → step_from b p ≡ done (Some q) → Stepped b p q
 unfolding step_from
 step-place b p q h = by_left p.left p.end (ltb-false (length b) p.end (passed (ltb (length b) p.end) _ _ _ h).0) h
   where
-    by_left : (k e : ℕ) → e ≤ length b → step_from b (record { end = e; left = k }) ≡ done (some q) → Stepped b (record { end = e; left = k }) q
+    by_left : (k e : ℕ) → e ≤ length b → step_from b (record { end = e; left = k }) ≡ done (Some q) → Stepped b (record { end = e; left = k }) q
     by_left zero e i h =
         let (_, r) = met (eqb e 0) _ _ _ (sym (step_end b e i) ∙ h) in
         let z : ◌≡◌ {A = ℕ} 0 1 = cc in
         absurd (omega arith)
     by_left (suc k) e i h =
-        let (m, met, r) = map-done _ (step_back (take e b)) (some q) (sym (step-on b e k i) ∙ h) in
+        let (m, met, r) = map-done _ (step_back (take e b)) (Some q) (sym (step-on b e k i) ∙ h) in
         let (_, at, back, good) = met_at b e (suc k) m i met in
         let same : place_of (suc k) m ≡ q = cc in
         rw (← same) (record { inside = i; left = omega arith; next = refl; back = back; good = rw at good })
 
 -- a step that hands out none: no record and no byte is left
-pub step-ends : (b : List ℕ) (p : Position) → step_from b p ≡ done none → (p.left ≡ 0) × (p.end ≡ 0)
+pub step-ends : (b : List ℕ) (p : Position) → step_from b p ≡ done None → (p.left ≡ 0) × (p.end ≡ 0)
 unfolding step_from
 step-ends b p h = by_left p.left p.end (ltb-false (length b) p.end (passed (ltb (length b) p.end) _ _ _ h).0) h
   where
-    by_left : (k e : ℕ) → e ≤ length b → step_from b (record { end = e; left = k }) ≡ done none → (k ≡ 0) × (e ≡ 0)
+    by_left : (k e : ℕ) → e ≤ length b → step_from b (record { end = e; left = k }) ≡ done None → (k ≡ 0) × (e ≡ 0)
     by_left zero e i h = (refl, eqb-true e 0 (met (eqb e 0) _ _ _ (sym (step_end b e i) ∙ h)).0)
     by_left (suc k) e i h =
-        let (m, met, r) = map-done _ (step_back (take e b)) none (sym (step-on b e k i) ∙ h) in
+        let (m, met, r) = map-done _ (step_back (take e b)) None (sym (step-on b e k i) ∙ h) in
         let z : ◌≡◌ {A = ℕ} 0 1 = cc in
         absurd (omega arith)
 
@@ -113,8 +112,8 @@ handed-step k b p h rest = rw (walk_from_lem b p h) (go (step_from b p) refl)
   where
     go : (o : Outcome (Option Place)) → step_from b p ≡ o → and_then o (hand_on b (handed_out k b)) ≡ and_then o (hand_on b (walk_from b))
     go (refused n) s = refl
-    go (done none) s = refl
-    go (done (some q)) s = rw (rest q (step-place b p q s))
+    go (done None) s = refl
+    go (done (Some q)) s = rw (rest q (step-place b p q s))
 
 -- a position within the bytes: stepping from it hands out what the walk back gives
 handed-walk : (k : ℕ) (b : List ℕ) (p : Position) → p.left ≡ k → p.end ≤ length b → handed_out (suc k) b p ≡ walk_from b p
@@ -138,7 +137,7 @@ reached zero b p = step_from b p
 reached (suc k) b p = and_then (reached k b p) (step_past b)
 
 -- one step first, or last
-reached_shift : (k : ℕ) (b : List ℕ) (p : Position) (q : Place) → step_from b p ≡ done (some q) → reached (suc k) b p ≡ reached k b q.next
+reached_shift : (k : ℕ) (b : List ℕ) (p : Position) (q : Place) → step_from b p ≡ done (Some q) → reached (suc k) b p ≡ reached k b q.next
 unfolding reached
 reached_shift zero b p q e = rw e
 reached_shift (suc k) b p q e = ap (λ o. and_then o (step_past b)) (reached_shift k b p q e)
@@ -151,22 +150,22 @@ cursor_reached (suc k) b p e = ap (λ o. and_then o (step_past b)) (cursor_reach
 
 -- a walk that meets a transaction: its first step, and the rest of it
 walk_first : (b : List ℕ) (p : Position) (rs : List (List ℕ)) → p.end ≤ length b → walk_from b p ≡ done rs → 0 < length rs →
-    (q : Place) × (us : List (List ℕ)) × (step_from b p ≡ done (some q)) × (walk_from b q.next ≡ done us) × (transaction_at b q ∷ us ≡ rs)
+    (q : Place) × (us : List (List ℕ)) × (step_from b p ≡ done (Some q)) × (walk_from b q.next ≡ done us) × (transaction_at b q ∷ us ≡ rs)
 walk_first b p rs h w l = go (step_from b p) refl (sym (walk_from_lem b p h) ∙ w)
   where
     go : (o : Outcome (Option Place)) → step_from b p ≡ o → and_then o (hand_on b (walk_from b)) ≡ done rs →
-        (q : Place) × (us : List (List ℕ)) × (step_from b p ≡ done (some q)) × (walk_from b q.next ≡ done us) × (transaction_at b q ∷ us ≡ rs)
+        (q : Place) × (us : List (List ℕ)) × (step_from b p ≡ done (Some q)) × (walk_from b q.next ≡ done us) × (transaction_at b q ∷ us ≡ rs)
     go (refused n) e w = let z : ◌≡◌ {A = ℕ} 0 1 = cc in absurd (omega arith)
-    go (done none) e w =
+    go (done None) e w =
         let empty : rs ≡ [] = cc in
         absurd (omega (arith, ap length empty))
-    go (done (some q)) e w =
+    go (done (Some q)) e w =
         let (us, walk, same) = map-done _ (walk_from b q.next) rs w in
         (q, us, e, walk, same)
 
 -- steps lead to the transaction that the walk meets after so many others
 reached-at : (k : ℕ) (b : List ℕ) (p : Position) (rs : List (List ℕ)) → p.end ≤ length b → walk_from b p ≡ done rs → k < length rs →
-    (q : Place) × (reached k b p ≡ done (some q)) × (transaction_at b q ≡ get_or rs k [])
+    (q : Place) × (reached k b p ≡ done (Some q)) × (transaction_at b q ≡ get_or rs k [])
 unfolding reached
 reached-at zero b p rs h w l =
     let (q, us, e, _, same) = walk_first b p rs h w l in
@@ -178,7 +177,7 @@ reached-at (suc k) b p rs h w l =
     (r, reached_shift k b p q e ∙ there, holds ∙ ap (λ ts. get_or ts (suc k) []) same)
 
 -- after so many steps from the newest record a cursor stands at the record with that index from the newest
-pub cursor_at_lem : (b : List ℕ) (rs : List (List ℕ)) (k : ℕ) → newest_first b ≡ done rs → k < length rs → (q : Place) × (cursor_at b k ≡ done (some q)) × (transaction_at b q ≡ get_or rs k [])
+pub cursor_at_lem : (b : List ℕ) (rs : List (List ℕ)) (k : ℕ) → newest_first b ≡ done rs → k < length rs → (q : Place) × (cursor_at b k ≡ done (Some q)) × (transaction_at b q ≡ get_or rs k [])
 cursor_at_lem b rs k h l =
     let (p, opened, walk) = then_done (trailer b) _ rs h in
     let (q, there, holds) = reached-at k b p rs (trailer-inside b p opened) walk l in

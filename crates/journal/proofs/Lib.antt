@@ -7,3 +7,4 @@ pub mod StepLaws
 pub mod SurveyLaws
 pub mod ReadLaws
 pub mod StorageLaws
+pub mod NamedLaws

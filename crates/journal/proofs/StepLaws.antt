@@ -1,16 +1,16 @@
 -- One step back as the code makes it: the number at a place, and the record that ends where the first bytes end.
-use Rattle.std.specs.Prelude.{if◌then◌else◌}
+use Rattle.std.specs.Prelude.{Some, if◌then◌else◌}
 use mathlib.Core.Bool.{true, false, not}
 use mathlib.Core.List.{List}
-use mathlib.Core.Path.{◌≡◌, ◌∙◌}
+use mathlib.Core.Path.{◌≡◌, refl, ◌∙◌}
 use Prim.Native.Nat.{ℕ, ◌+◌, ◌-◌, ◌*◌, ◌≤◌, ◌<◌}
 use native.Mathlib.Omega.{arith}
 use borrow.Author.Tests.{lt-ltb, le-ltb}
 use lib.ListN.{length, get_or, take, drop, length-drop}
 use lib.Seq.{drop_at, get_or-take, length-take-le, take-add, take-length, take-take}
-use Rattle.line.specs.Answer.{done, refused}
+use Rattle.line.specs.Answer.{Outcome, done, refused, map_done}
 use Rattle.line.specs.Transaction.{legal}
-use Rattle.journal.specs.Walk.{but_last, last_number, step_back, place_of}
+use Rattle.journal.specs.Walk.{Met, but_last, last_number, step_back, place_of}
 
 -- the last number of the first bytes is the number at the place two before their end
 pub number_at : (b : List ℕ) (end at : ℕ) → end ≡ at + 2 → end ≤ length b → last_number (take end b) ≡ get_or b at 0 * 256 + get_or b (at + 1) 0
@@ -71,3 +71,8 @@ module _ (b : List ℕ) (end : ℕ) (h : end ≤ length b) where
 pub place_of_lem : (b : List ℕ) (left start n : ℕ) → start + n ≤ length b →
     place_of left (record { transaction = take n (drop start b); before = take start b }) ≡ record { start = start; length = n; next = record { end = start; left = left - 1 } }
 place_of_lem b left start n h = rw (length-take-le start b (omega arith), length-take-le n (drop start b) (rw length-drop (omega arith)))
+
+-- the step that found a place found some place
+pub found-some : (left : ℕ) (o : Outcome Met) → map_done (λ m. Some (place_of left m)) o ≡ map_done (λ q. Some q) (map_done (place_of left) o)
+found-some left (done m) = refl
+found-some left (refused n) = refl

@@ -1,18 +1,19 @@
 -- A journal at the start of a buffer, to those who store in it: its size, one transaction more, and what the buffer holds and is read as once it is stored.
-use mathlib.Core.Bool.{true, false, not, and-eq-true_iff}
+use Rattle.std.specs.Prelude.{if◌then◌else◌}
+use mathlib.Core.Bool.{Bool, true, false, not, and-eq-true_iff}
 use mathlib.Core.List.{List, [], ◌∷◌, ◌++◌, append-nil}
 use mathlib.Core.Path.{◌≡◌, refl, sym, ap, ◌∙◌}
-use Prim.Native.Nat.{ℕ, zero, suc, ◌+◌, ◌≤◌, ◌<◌}
+use Prim.Native.Nat.{ℕ, zero, suc, ◌+◌, ◌≤◌}
 use native.Mathlib.Nat.{not-suc-le-zero, le_of_suc-le-suc}
 use native.Mathlib.Omega.{arith}
-use borrow.Author.Tests.{ltb-false, lt-ltb, le-ltb, leb-true, eqb-true, eq-eqb, not-false}
+use borrow.Author.Tests.{ltb-false, le-ltb, leb-true, eqb-true, eq-eqb, not-false}
 use lib.Dec.{leb, ltb, eqb}
 use lib.ListN.{length, take, drop, length-append, drop_of_length-le}
 use lib.Seq.{length-take-le, take-take}
 use Rattle.line.proofs.AllLaws.{all_take}
 use Rattle.line.proofs.OutcomeLaws.{passed}
 use Rattle.line.proofs.OverlayLaws.{overlay-length, overlay-own, overlay-start}
-use Rattle.line.specs.Answer.{Outcome, done, refused, overlay}
+use Rattle.line.specs.Answer.{Outcome, done, refused, and_then, overlay}
 use Rattle.line.specs.Character.{byte}
 use Rattle.line.specs.Test.{all}
 use Rattle.line.specs.Transaction.{legal}
@@ -41,13 +42,14 @@ put-journal ts t j l h =
 
 -- what is read of a buffer by its tests
 module _ {A : Type 0} (read : List ℕ → Outcome A) (buffer : List ℕ) (n : ℕ) where
-  -- the buffer has the wrong size
-  pub in_wrong : is_buffer buffer ≡ false → refused 1 ≡ in_buffer read buffer n
-  in_wrong e = rw e
-
-  -- it has fewer bytes
-  pub in_past : is_buffer buffer ≡ true → length buffer < n → refused 7 ≡ in_buffer read buffer n
-  in_past e h = rw (e, lt-ltb (length buffer) n h)
+  -- the bytes are taken, and read where there is no refusal
+  pub in_read : (o : Outcome (List ℕ)) → o ≡ in_buffer (λ b. done b) buffer n → and_then o read ≡ in_buffer read buffer n
+  in_read o e = rw e (go (is_buffer buffer) (ltb (length buffer) n))
+    where
+      go : (size past : Bool) → and_then (if not size then refused 1 else if past then refused 7 else done (take n buffer)) read ≡ (if not size then refused 1 else if past then refused 7 else read (take n buffer))
+      go false past = refl
+      go true true = refl
+      go true false = refl
 
   -- the first n are read
   pub in_within : is_buffer buffer ≡ true → n ≤ length buffer → read (take n buffer) ≡ in_buffer read buffer n

@@ -1,8 +1,7 @@
 -- One walk over a journal finds where its records lie: the extents of those met so far begin where the walk stands, and a transaction lies at each.
-use Rattle.std.specs.Prelude.{if◌then◌else◌}
+use Rattle.std.specs.Prelude.{Option, None, Some, if◌then◌else◌}
 use mathlib.Core.Bool.{Bool, true, false}
 use mathlib.Core.List.{List, [], ◌∷◌, ◌++◌, append-nil, append_assoc, reverse, reverse-cons, reverse-reverse}
-use mathlib.Core.Option.{Option, none, some}
 use mathlib.Core.Path.{◌≡◌, refl, sym, ap, ◌∙◌}
 use Prim.Native.Nat.{ℕ, zero, suc, ◌+◌, ◌-◌, ◌≤◌, ◌<◌}
 use native.Mathlib.Omega.{arith}
@@ -87,7 +86,7 @@ noted-none b i p h = record { inside = h; later = []; met = same (walk_from b p)
 -- a walk on its way
 module _ (b : List ℕ) (i : ℕ) (p at : Position) (last here next : Extent) (n : Noted b i p at last here next) where
   -- a step
-  module _ (q : Place) (e : step_from b at ≡ done (some q)) where
+  module _ (q : Place) (e : step_from b at ≡ done (Some q)) where
     -- the walk goes on from there
     met-more : walk_from b p ≡ map_done (λ rs. reverse (transaction_at b q ∷ n.later) ++ rs) (walk_from b q.next)
     met-more = n.met ∙ rw (walk_from_lem b at n.inside, e) (go (walk_from b q.next))
@@ -130,7 +129,7 @@ module _ (b : List ℕ) (i : ℕ) (p at : Position) (last here next : Extent) (n
         }
 
   -- all are met
-  pub noted-all : step_from b at ≡ done none → done (record { count = p.left; here = here; next = next }) ≡ map_done (λ rs. survey_of i (reverse rs)) (walk_from b p)
+  pub noted-all : step_from b at ≡ done None → done (record { count = p.left; here = here; next = next }) ≡ map_done (λ rs. survey_of i (reverse rs)) (walk_from b p)
   noted-all e =
       let (left, end) = step-ends b at e in
       let turned : reverse (reverse n.later ++ []) ≡ n.later = ap reverse (append-nil (reverse n.later)) ∙ reverse-reverse n.later in
@@ -187,10 +186,10 @@ walk_lie b p later rs h lie w rest = go (step_from b p) refl (sym (walk_from_lem
   where
     go : (o : Outcome (Option Place)) → step_from b p ≡ o → and_then o (hand_on b (walk_from b)) ≡ done rs → LieFrom b 0 (reverse rs ++ later)
     go (refused n) e w = let z : ◌≡◌ {A = ℕ} 0 1 = cc in absurd (omega arith)
-    go (done none) e w =
+    go (done None) e w =
         let empty : rs ≡ [] = cc in
         rw (empty, ← (step-ends b p e).1) lie
-    go (done (some q)) e w =
+    go (done (Some q)) e w =
         let (us, walk, same) = map-done _ (walk_from b q.next) rs w in
         rw (← same, reverse-cons, append_assoc) (rest q us (step-place b p q e) walk)
 

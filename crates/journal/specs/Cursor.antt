@@ -1,6 +1,5 @@
 -- Reading records through the cursor: what stepping on from a position hands out.
-use Rattle.std.specs.Prelude.{List, [], ◌∷◌, ℕ, zero, suc, take, drop}
-use Rattle.std.proofs.Math.Option.{Option, none, some}
+use Rattle.std.specs.Prelude.{List, [], ◌∷◌, ℕ, zero, suc, take, drop, Option, Some, None}
 use Rattle.line.specs.Answer.{Outcome, done, refused, map_done, and_then}
 use Rattle.journal.specs.declared.cursor.Place.{Place}
 use Rattle.journal.specs.declared.cursor.Position.{Position}
@@ -16,8 +15,8 @@ walk_from b p = walk_back p.left (take p.end b)
 
 -- the transaction that a step hands out and the rest behind it, nothing where it is the end
 abbrev pub hand_on : List ℕ → (Position → Outcome (List (List ℕ))) → Option Place → Outcome (List (List ℕ))
-hand_on b rest none = done []
-hand_on b rest (some p) = map_done (λ ts. transaction_at b p ∷ ts) (rest p.next)
+hand_on b rest None = done []
+hand_on b rest (Some p) = map_done (λ ts. transaction_at b p ∷ ts) (rest p.next)
 
 -- the transactions that stepping from a position hands out until the end, newest first: 7 where so many steps do not reach
 -- it (R-9.8)

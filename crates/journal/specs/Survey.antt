@@ -1,11 +1,9 @@
 -- Where the records of a journal lie, and what one walk finds of them.
 use Rattle.std.specs.Prelude.{List, [], ◌∷◌, ◌≡◌, ℕ, ◌+◌, ◌-◌, ◌≤◌, ◌<◌, length, take, drop, get_or}
-use Rattle.line.specs.Answer.{Outcome, done, refused, refusal_number, output}
+use Rattle.line.specs.Answer.{done, output}
 use Rattle.journal.specs.Walk.{newest_first, decode}
 use Rattle.journal.specs.declared.record.Extent.{Extent}
 use Rattle.journal.specs.declared.record.Located.{Located}
-use Rattle.journal.specs.declared.record.Surveyed.{Surveyed}
-use Rattle.journal.specs.declared.record.Surveyed.TheVariants.{Found, Refused}
 
 -- no record: an extent of no bytes
 abbrev pub nowhere : Extent
@@ -24,11 +22,6 @@ extent_at ts i = get_or (extents_from 0 ts) i nowhere
 -- (R-9.7)
 abbrev pub survey_of : ℕ → List (List ℕ) → Located
 survey_of i ts = record { count = length ts; here = extent_at ts i; next = extent_at ts (i + 1) }
-
--- the answer of a survey as document 01 gives it
-abbrev pub surveyed_as : Surveyed → Outcome Located
-surveyed_as (Found found) = done found
-surveyed_as (Refused r) = refused (refusal_number r)
 
 -- a transaction lies at an extent of the bytes, and within them (R-9.7)
 pub record Lies (b : List ℕ) (e : Extent) (t : List ℕ) : Type 0 where

@@ -1,14 +1,10 @@
 -- Walking back from the trailer (document 01, "The book"): what any bytes hold.
-use Rattle.std.specs.Prelude.{not, List, [], ◌∷◌, reverse, ℕ, zero, suc, ◌+◌, ◌-◌, ◌*◌, ltb, eqb, length, take, drop, get_or, if◌then◌else◌}
-use Rattle.std.proofs.Math.Option.{Option, none, some}
-use Rattle.line.specs.Answer.{Outcome, done, refused, refusal_number, map_done, and_then}
+use Rattle.std.specs.Prelude.{not, List, [], ◌∷◌, reverse, ℕ, zero, suc, ◌+◌, ◌-◌, ◌*◌, ltb, eqb, length, take, drop, get_or, Option, Some, None, Result, if◌then◌else◌}
+use Rattle.line.specs.Answer.{Outcome, done, refused, outcome_of, map_done, and_then}
 use Rattle.line.specs.Transaction.{legal}
-use Rattle.journal.specs.declared.cursor.Opened.{Opened}
-use Rattle.journal.specs.declared.cursor.Opened.TheVariants as Opening
+use Rattle.line.specs.declared.answer.Refusal.{Refusal}
 use Rattle.journal.specs.declared.cursor.Place.{Place}
 use Rattle.journal.specs.declared.cursor.Position.{Position}
-use Rattle.journal.specs.declared.cursor.Step.{Step}
-use Rattle.journal.specs.declared.cursor.Step.TheVariants as Stepping
 
 -- all but the last n bytes
 abbrev pub but_last : ℕ → List ℕ → List ℕ
@@ -59,17 +55,6 @@ decode b = map_done reverse (newest_first b)
 
 -- ── The cursor ──
 
--- the answer of opening as document 01 gives it
-abbrev pub opened_as : Opened → Outcome Position
-opened_as (Opening.At p) = done p
-opened_as (Opening.Refused r) = refused (refusal_number r)
-
--- the answer of a step: a record's place, or none at the end
-abbrev pub step_as : Step → Outcome (Option Place)
-step_as (Stepping.Record p) = done (some p)
-step_as Stepping.End = done none
-step_as (Stepping.Refused r) = refused (refusal_number r)
-
 -- the place of a record that was met, and the position behind it (R-9.8)
 abbrev pub place_of : ℕ → Met → Place
 place_of left m =
@@ -84,8 +69,8 @@ place_of left m =
 unfoldable pub step_from : List ℕ → Position → Outcome (Option Place)
 step_from b p =
     if ltb (length b) p.end then refused 9
-    else if eqb p.left 0 then (if eqb p.end 0 then done none else refused 7)
-    else map_done (λ m. some (place_of p.left m)) (step_back (take p.end b))
+    else if eqb p.left 0 then (if eqb p.end 0 then done None else refused 7)
+    else map_done (λ m. Some (place_of p.left m)) (step_back (take p.end b))
 
 -- where a cursor stands at first: at the newest record, by the trailer (R-9.8)
 abbrev pub first_step : List ℕ → Outcome (Option Place)
@@ -93,12 +78,12 @@ first_step b = and_then (trailer b) (step_from b)
 
 -- the step on from a place that was found; from the end there is none (R-9.8)
 abbrev pub step_past : List ℕ → Option Place → Outcome (Option Place)
-step_past b none = done none
-step_past b (some p) = step_from b p.next
+step_past b None = done None
+step_past b (Some p) = step_from b p.next
 
 -- where a cursor stands after a step on from where it stands; a refusal stands (R-9.8)
-abbrev pub step_on : List ℕ → Step → Outcome (Option Place)
-step_on b at = and_then (step_as at) (step_past b)
+abbrev pub step_on : List ℕ → Result (Option Place) Refusal → Outcome (Option Place)
+step_on b at = and_then (outcome_of at) (step_past b)
 
 -- where a cursor stands after so many steps from the newest record (R-9.8)
 unfoldable pub cursor_at : List ℕ → ℕ → Outcome (Option Place)

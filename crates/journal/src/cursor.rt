@@ -1,8 +1,7 @@
 // Walking back through a journal's records, newest first: a position by value and a step.
-ghost use Rattle.std.proofs.Math.Option.{some};
 ghost use Rattle.std.specs.Prelude.{◌≡◌, ◌+◌, ◌*◌, ◌≤◌, get_or, length, take};
-ghost use Rattle.line.specs.Answer.{map_done};
-ghost use Rattle.journal.specs.Walk.{opened_as, place_of, step_as, step_back, step_from, trailer};
+ghost use Rattle.line.specs.Answer.{map_done, outcome_of};
+ghost use Rattle.journal.specs.Walk.{place_of, step_back, step_from, trailer};
 
 use line::Refusal;
 use line::transaction::is_legal;
@@ -14,27 +13,12 @@ pub struct Position {
     pub left: usize,
 }
 
-// Where a record's information lies, and the position behind it.
+// Where a record's information lies, and the position behind it. Flat, as the walk's definitions name its fields.
 #[derive(Clone, Copy)]
 pub struct Place {
     pub start: usize,
     pub length: usize,
     pub next: Position,
-}
-
-// Where a walk starts, or why it cannot.
-#[derive(Clone, Copy)]
-pub enum Opened {
-    At(Position),
-    Refused(Refusal),
-}
-
-// What a step finds.
-#[derive(Clone, Copy)]
-pub enum Step {
-    Record(Place),
-    End,
-    Refused(Refusal),
 }
 
 // The most records.
@@ -50,68 +34,69 @@ pub const TRAILER: usize = 4;
 pub const LENGTH: usize = 2;
 
 // The position behind the newest record, from the trailer of a journal lent at its exact length.
-pub fn open(journal: &[u8]) -> Opened
-    ensures { opened_as result ≡ trailer journal.now }
+pub fn open(journal: &[u8]) -> Result<Position, Refusal>
+    ensures { outcome_of result ≡ trailer journal.now }
 {
     let n = journal.len();
     if n < TRAILER {
-        return Opened::Refused(Refusal::Journal);
+        return Err(Refusal::Journal);
     }
     let left = number_at(journal, n - TRAILER);
     if RECORDS < left {
-        return Opened::Refused(Refusal::Journal);
+        return Err(Refusal::Journal);
     }
     let end = number_at(journal, n - LENGTH);
     if BYTES < end {
-        return Opened::Refused(Refusal::Journal);
+        return Err(Refusal::Journal);
     }
     if n != end + TRAILER {
-        return Opened::Refused(Refusal::Journal);
+        return Err(Refusal::Journal);
     }
-    Opened::At(Position { end, left })
+    Ok(Position { end, left })
 }
 
-// The record before a position.
-pub fn step_back(journal: &[u8], position: Position) -> Step
-    ensures { step_as result ≡ step_from journal.now position }
+// The record before a position; none at the end.
+#[tactic(auto, unfolding(crate::specs::Walk::step_from))]
+pub fn step_back(journal: &[u8], position: Position) -> Result<Option<Place>, Refusal>
+    ensures { outcome_of result ≡ step_from journal.now position }
 {
     let end = position.end;
     let left = position.left;
     if journal.len() < end {
-        return Step::Refused(Refusal::Range);
+        return Err(Refusal::Range);
     }
     if left == 0 {
         if end == 0 {
-            return Step::End;
+            return Ok(None);
         }
-        return Step::Refused(Refusal::Journal);
+        return Err(Refusal::Journal);
     }
-    record_before(journal, end, left)
+    let place = record_before(journal, end, left)?;
+    Ok(Some(place))
 }
 
 // The record that ends there.
-fn record_before(journal: &[u8], end: usize, left: usize) -> Step
+fn record_before(journal: &[u8], end: usize, left: usize) -> Result<Place, Refusal>
     requires { (end ≤ length journal.now) × (1 ≤ left) }
-    ensures { step_as result ≡
-        map_done (λ m. some (place_of left m)) (step_back (take end journal.now)) }
+    ensures { outcome_of result ≡ map_done (place_of left) (step_back (take end journal.now)) }
 {
     if end < LENGTH {
-        return Step::Refused(Refusal::Journal);
+        return Err(Refusal::Journal);
     }
     let n = number_at(journal, end - LENGTH);
     if end < n + LENGTH {
-        return Step::Refused(Refusal::Journal);
+        return Err(Refusal::Journal);
     }
     let start = end - (n + LENGTH);
     let last = start + n;
     if !is_legal(&journal[start..last]) {
-        return Step::Refused(Refusal::Journal);
+        return Err(Refusal::Journal);
     }
     let next = Position {
         end: start,
         left: left - 1,
     };
-    Step::Record(Place {
+    Ok(Place {
         start,
         length: n,
         next,
@@ -123,7 +108,5 @@ fn number_at(bytes: &[u8], at: usize) -> usize
     requires { at + 2 ≤ length bytes.now }
     ensures { result ≡ get_or bytes.now at 0 * 256 + get_or bytes.now (at + 1) 0 }
 {
-    let high = bytes[at] as usize;
-    let low = bytes[at + 1] as usize;
-    high * 256 + low
+    usize::from(u16::from_be_bytes([bytes[at], bytes[at + 1]]))
 }

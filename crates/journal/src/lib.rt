@@ -7,6 +7,6 @@ pub mod cursor;
 pub mod held;
 pub mod record;
 
-pub use cursor::{Opened, Place, Position, Step};
+pub use cursor::{Place, Position};
 pub use held::Cursor;
-pub use record::{Extent, Located, Surveyed};
+pub use record::{Extent, Located};

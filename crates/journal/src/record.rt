@@ -1,12 +1,12 @@
 // Reading a journal lent at its exact length: how many records, and each of them.
 ghost use Rattle.std.specs.Prelude.{reverse, ◌≡◌, ◌≤◌, length};
-ghost use Rattle.line.specs.Answer.{checked_as, map_done};
+ghost use Rattle.line.specs.Answer.{map_done, outcome_of};
 ghost use Rattle.journal.specs.Cursor.{walk_from};
-ghost use Rattle.journal.specs.Survey.{HandedNewest, HandedOldest, survey_of, surveyed_as};
+ghost use Rattle.journal.specs.Survey.{HandedNewest, HandedOldest, survey_of};
 ghost use Rattle.journal.specs.Walk.{decode};
 
-use crate::cursor::{Opened, Position, Step, open, step_back};
-use line::{Checked, Refusal};
+use crate::cursor::{Position, open, step_back};
+use line::Refusal;
 
 // Where the information of a record lies in the journal.
 #[derive(Clone, Copy)]
@@ -16,7 +16,7 @@ pub struct Extent {
 }
 
 // How many records there are, where the one that was asked for lies, and the one behind it. An
-// extent of no bytes is no record.
+// extent of no bytes is no record, as the readers hand back no bytes: no Option.
 #[derive(Clone, Copy)]
 pub struct Located {
     pub count: usize,
@@ -24,29 +24,18 @@ pub struct Located {
     pub next: Extent,
 }
 
-// What one walk over the journal finds.
-#[derive(Clone, Copy)]
-pub enum Surveyed {
-    Found(Located),
-    Refused(Refusal),
-}
-
 // One walk over the journal, which checks it and finds the record at an index from the oldest,
 // which is 0, and the one behind it.
-pub fn survey(journal: &[u8], index: usize) -> Surveyed
-    ensures { surveyed_as result ≡ map_done (survey_of index) (decode journal.now) }
+pub fn survey(journal: &[u8], index: usize) -> Result<Located, Refusal>
+    ensures { outcome_of result ≡ map_done (survey_of index) (decode journal.now) }
 {
-    let opened = open(journal);
-    match opened {
-        Opened::At(position) => survey_from(journal, position, index),
-        Opened::Refused(refusal) => Surveyed::Refused(refusal),
-    }
+    survey_from(journal, open(journal)?, index)
 }
 
 // The same from a position: `last` is the record met before, so the one behind in the journal.
-fn survey_from(journal: &[u8], position: Position, index: usize) -> Surveyed
+fn survey_from(journal: &[u8], position: Position, index: usize) -> Result<Located, Refusal>
     requires { position.end ≤ length journal.now }
-    ensures { surveyed_as result ≡
+    ensures { outcome_of result ≡
         map_done (λ rs. survey_of index (reverse rs)) (walk_from journal.now position) }
 {
     let count = position.left;
@@ -57,36 +46,27 @@ fn survey_from(journal: &[u8], position: Position, index: usize) -> Surveyed
     };
     let mut here = last;
     let mut next = last;
-    loop {
-        let step = step_back(journal, at);
-        match step {
-            Step::Record(place) => {
-                at = place.next;
-                let met = Extent {
-                    start: place.start,
-                    length: place.length,
-                };
-                if at.left == index {
-                    here = met;
-                    next = last;
-                }
-                last = met;
-            }
-            Step::End => return Surveyed::Found(Located { count, here, next }),
-            Step::Refused(refusal) => return Surveyed::Refused(refusal),
+    while let Some(place) = step_back(journal, at)? {
+        at = place.next;
+        let met = Extent {
+            start: place.start,
+            length: place.length,
+        };
+        if at.left == index {
+            here = met;
+            next = last;
         }
+        last = met;
     }
+    Ok(Located { count, here, next })
 }
 
 // How many records the journal has, or that it is not well formed.
-pub fn check(journal: &[u8]) -> Checked
-    ensures { checked_as result ≡ map_done length (decode journal.now) }
+pub fn check(journal: &[u8]) -> Result<usize, Refusal>
+    ensures { outcome_of result ≡ map_done length (decode journal.now) }
 {
-    let surveyed = survey(journal, 0);
-    match surveyed {
-        Surveyed::Found(found) => Checked::Count(found.count),
-        Surveyed::Refused(refusal) => Checked::Refused(refusal),
-    }
+    let found = survey(journal, 0)?;
+    Ok(found.count)
 }
 
 // The information of the record at an index from the oldest, which is 0: the very part of the
@@ -94,8 +74,7 @@ pub fn check(journal: &[u8]) -> Checked
 pub fn oldest(journal: &[u8], index: usize) -> &[u8]
     ensures { HandedOldest journal.now index journal.entry.ref_ptr result.now result.ref_ptr }
 {
-    let surveyed = survey(journal, index);
-    let Surveyed::Found(found) = surveyed else {
+    let Ok(found) = survey(journal, index) else {
         return &journal[..0];
     };
     let here = found.here;
@@ -108,8 +87,7 @@ pub fn oldest(journal: &[u8], index: usize) -> &[u8]
 pub fn newest(journal: &[u8], index: usize) -> &[u8]
     ensures { HandedNewest journal.now index journal.entry.ref_ptr result.now result.ref_ptr }
 {
-    let opened = open(journal);
-    let Opened::At(position) = opened else {
+    let Ok(position) = open(journal) else {
         return &journal[..0];
     };
     let count = position.left;

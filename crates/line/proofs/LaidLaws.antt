@@ -5,10 +5,9 @@ use Prim.Native.Nat.{ℕ, ◌+◌, ◌-◌, ◌≤◌, ◌<◌}
 use native.Mathlib.Omega.{arith}
 use lib.ListN.{length, take, drop, set, length-append, length-take, length-drop}
 use lib.Seq.{take_all}
-use Rattle.line.specs.Answer.{Outcome, done, overlay, written_as, Laid, Wrote}
+use Rattle.line.specs.Answer.{Outcome, done, overlay, outcome_of, Laid, Wrote}
 use Rattle.line.specs.declared.answer.Refusal.{Refusal}
-use Rattle.line.specs.declared.answer.Written.{Written}
-use Rattle.line.specs.declared.answer.Written.TheVariants.{Count, Refused}
+use Rattle.std.specs.Prelude.{Result, Ok, Err}
 use Rattle.line.proofs.OverlayLaws.{overlay-none, overlay-length, overlay-start, overlay-snoc, overlay-part, wrote-done, refused_only}
 
 -- nothing is laid
@@ -53,20 +52,20 @@ laid-part {a} {xs} {m} {out} {n} d h e =
     }
 
 -- a writer that has laid what is due answers with its count
-pub wrote-laid : {o : Outcome (List ℕ)} {xs m out : List ℕ} {n : ℕ} → o ≡ done xs → Laid xs n m out → Wrote o (Count n) m out
+pub wrote-laid : {o : Outcome (List ℕ)} {xs m out : List ℕ} {n : ℕ} → o ≡ done xs → Laid xs n m out → Wrote o (Ok n) m out
 wrote-laid {xs} e d = wrote-done xs _ _ _ e d.counts d.leaves
 
 -- and one that was due to lay something is never refused, and its count is of what it has laid
-module _ {o : Outcome (List ℕ)} {xs m out : List ℕ} {r : Written} (e : o ≡ done xs) (w : Wrote o r m out) where
+module _ {o : Outcome (List ℕ)} {xs m out : List ℕ} {r : Result ℕ Refusal} (e : o ≡ done xs) (w : Wrote o r m out) where
   -- it is never refused
-  pub laid-never : {q : Refusal} → r ≡ Refused q → ⊥
+  pub laid-never : {q : Refusal} → r ≡ Err q → ⊥
   laid-never {q} c =
       let never = refused_only o q c w in
       let z : ◌≡◌ {A = ℕ} 0 1 = cc in
       omega arith
 
   -- it has laid what it counts
-  pub laid-counted : {n : ℕ} → r ≡ Count n → Laid xs n m out
+  pub laid-counted : {n : ℕ} → r ≡ Ok n → Laid xs n m out
   laid-counted c =
       let v = rw e at w in
-      record { counts = cc (v.answers, ap written_as c); leaves = v.leaves }
+      record { counts = cc (v.answers, ap outcome_of c); leaves = v.leaves }

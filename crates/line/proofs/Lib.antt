@@ -1,6 +1,7 @@
 pub mod AllLaws
 pub mod CopyLaws
 pub mod FindLaws
+pub mod FirstLaws
 pub mod FlatLaws
 pub mod LaidLaws
 pub mod ListLaws
@@ -10,3 +11,4 @@ pub mod OverlayLaws
 pub mod ParityLaws
 pub mod SameLaws
 pub mod TransactionLaws
+pub mod NamedLaws

@@ -1,12 +1,14 @@
 -- Laws of outcomes: what was done before one that is done, what was refused before one that is refused, and what holds of a choice.
-use Rattle.std.specs.Prelude.{if◌then◌else◌}
+use Rattle.std.specs.Prelude.{Result, Err, IsErrAnd, if◌then◌else◌}
+use Rattle.std.proofs.lemmas.Result.{err_from_is_err_and}
 use mathlib.Core.Bool.{Bool, true, false, not}
 use mathlib.Core.List.{List}
-use mathlib.Core.Path.{◌≡◌, refl}
+use mathlib.Core.Path.{◌≡◌, refl, ap, ◌∙◌}
 use Prim.Native.Nat.{ℕ}
 use native.Mathlib.Omega.{arith}
 use lib.ListN.{length}
-use Rattle.line.specs.Answer.{Outcome, done, refused, map_done, and_then, output}
+use Rattle.line.specs.Answer.{Outcome, done, refused, refusal_number, outcome_of, map_done, and_then, output}
+use Rattle.line.specs.declared.answer.Refusal.{Refusal}
 
 -- a second call is done on what a first has made
 pub then_done : {A B : Type 0} (o : Outcome A) (f : A → Outcome B) (y : B) → and_then o f ≡ done y → (x : A) × (o ≡ done x) × (f x ≡ done y)
@@ -46,3 +48,13 @@ choice-not false x y = refl
 pub choice : {A : Type 0} (P : A → Type 0) (b : Bool) {x y : A} → (b ≡ true → P x) → (b ≡ false → P y) → P (if b then x else y)
 choice P true p q = p refl
 choice P false p q = q refl
+
+-- ── A refusal handed on with `?` ──
+
+-- it is the same refusal
+pub handed-on : {A : Type 0} (q : Refusal) (r : Result A Refusal) → IsErrAnd r (λ x. x ≡ q) → r ≡ Err q
+handed-on q r h = let (x, e, same) = err_from_is_err_and r h in e ∙ ap (λ x. Err x) same
+
+-- by its number too
+pub handed-refusal : {A : Type 0} (q : Refusal) (r : Result A Refusal) → IsErrAnd r (λ x. x ≡ q) → outcome_of r ≡ refused (refusal_number q)
+handed-refusal q r h = ap outcome_of (handed-on q r h)

@@ -7,10 +7,9 @@ use native.Mathlib.Numerals.{add-one}
 use native.Mathlib.Omega.{arith}
 use lib.ListN.{length, get_or, take, drop, set, take-append-drop, length-append, length-drop, length-map, drop_of_length-le}
 use lib.Seq.{drop-cons, take_all, take-suc, set_at, take_at, drop_at, length-take-le, drop-drop, get_or-append-add, get_or-drop}
-use Rattle.line.specs.Answer.{Outcome, done, refused, overlay, written_as, Wrote, refusal_number}
+use Rattle.line.specs.Answer.{Outcome, done, refused, overlay, outcome_of, Wrote, refusal_number}
 use Rattle.line.specs.declared.answer.Refusal.{Refusal}
-use Rattle.line.specs.declared.answer.Written.{Written}
-use Rattle.line.specs.declared.answer.Written.TheVariants.{Count, Refused}
+use Rattle.std.specs.Prelude.{Result, Ok, Err}
 
 -- nothing laid over
 pub overlay-none : (m : List ℕ) → m ≡ overlay [] m
@@ -94,28 +93,28 @@ overlay-part a b m n k e h q =
     rw (take_at a d n e, drop_at a d n e, drop_of_length-le d none, append-nil, drop-drop, length-append, append_assoc)
 
 -- a refusal that leaves the memory alone
-pub wrote-refused : {o : Outcome (List ℕ)} (r : Refusal) (m : List ℕ) → o ≡ refused (refusal_number r) → Wrote o (Refused r) m m
+pub wrote-refused : {o : Outcome (List ℕ)} (r : Refusal) (m : List ℕ) → o ≡ refused (refusal_number r) → Wrote o (Err r) m m
 wrote-refused r m e = record { answers = rw e; leaves = rw e (overlay-none m) }
 
 -- the count of what was laid over the start
-pub wrote-done : {o : Outcome (List ℕ)} (xs : List ℕ) (n : ℕ) (before after : List ℕ) → o ≡ done xs → n ≡ length xs → after ≡ overlay xs before → Wrote o (Count n) before after
+pub wrote-done : {o : Outcome (List ℕ)} (xs : List ℕ) (n : ℕ) (before after : List ℕ) → o ≡ done xs → n ≡ length xs → after ≡ overlay xs before → Wrote o (Ok n) before after
 wrote-done xs n before after e c l = record { answers = rw (e, c) refl; leaves = rw e l }
 
 -- the same of a text changed character by character
-pub wrote_map : {o : Outcome (List ℕ)} (f : ℕ → ℕ) (xs before after : List ℕ) → after ≡ overlay (map f xs) before → o ≡ done (map f xs) → Wrote o (Count (length xs)) before after
+pub wrote_map : {o : Outcome (List ℕ)} (f : ℕ → ℕ) (xs before after : List ℕ) → after ≡ overlay (map f xs) before → o ≡ done (map f xs) → Wrote o (Ok (length xs)) before after
 wrote_map f xs before after l e = wrote-done (map f xs) (length xs) before after e (sym (length-map xs f)) l
 
 -- what a refused writer was asked is refused
-pub refused_only : (o : Outcome (List ℕ)) {r : Written} {before after : List ℕ} (q : Refusal) → r ≡ Refused q → Wrote o r before after → o ≡ refused (refusal_number q)
-refused_only (done xs) q e w = cc (w.answers, ap written_as e)
-refused_only (refused n) q e w = cc (w.answers, ap written_as e)
+pub refused_only : (o : Outcome (List ℕ)) {r : Result ℕ Refusal} {before after : List ℕ} (q : Refusal) → r ≡ Err q → Wrote o r before after → o ≡ refused (refusal_number q)
+refused_only (done xs) q e w = cc (w.answers, ap outcome_of e)
+refused_only (refused n) q e w = cc (w.answers, ap outcome_of e)
 
 -- what a writer counted lies at the start of the memory
-pub counted_start : (o : Outcome (List ℕ)) {r : Written} {before after : List ℕ} (n : ℕ) → r ≡ Count n → Wrote o r before after → (n ≤ length after) × (o ≡ done (take n after))
+pub counted_start : (o : Outcome (List ℕ)) {r : Result ℕ Refusal} {before after : List ℕ} (n : ℕ) → r ≡ Ok n → Wrote o r before after → (n ≤ length after) × (o ≡ done (take n after))
 unfolding overlay
 counted_start (done xs) {after} n e w =
-    let counts : length xs ≡ n = cc (w.answers, ap written_as e) in
+    let counts : length xs ≡ n = cc (w.answers, ap outcome_of e) in
     (rw (w.leaves, length-append) (omega arith), ap done (sym (rw w.leaves (overlay-start xs _ n counts))))
 counted_start (refused m) n e w =
-    let never : ◌≡◌ {A = ℕ} 0 1 = cc (w.answers, ap written_as e) in
+    let never : ◌≡◌ {A = ℕ} 0 1 = cc (w.answers, ap outcome_of e) in
     absurd (omega arith)

@@ -2,7 +2,7 @@
 use Rattle.std.specs.Prelude.{if◌then◌else◌}
 use mathlib.Core.Bool.{Bool, true, false, not, ◌&&◌, and-eq-true_iff}
 use mathlib.Core.List.{List, map}
-use mathlib.Core.Path.{◌≡◌, refl, sym, ap, ◌∙◌}
+use mathlib.Core.Path.{◌≡◌, refl, ap, ◌∙◌}
 use Prim.Native.Nat.{ℕ, zero, suc, ◌+◌, ◌-◌, ◌*◌, ◌/◌, ◌%◌, ◌≤◌, ◌<◌}
 use native.Mathlib.Omega.{arith}
 use borrow.Author.Tests.{ltb-true, eqb-true, lt-ltb, le-ltb, eq-eqb, ne_eqb}
@@ -10,11 +10,10 @@ use lib.Count.{ones, ones_cat}
 use lib.Dec.{ltb}
 use lib.ListN.{length, get_or, set, length-map, length-set}
 use lib.Seq.{get_or-set_same}
-use Rattle.line.specs.Answer.{done, refused, Laid, Wrote}
+use Rattle.line.specs.Answer.{done, refused}
 use Rattle.line.specs.Character.{byte, seven}
 use Rattle.line.specs.Parity.{even, with_parity, seven_bits, flip_top, parity_on, parity_off}
 use Rattle.line.specs.Test.{all}
-use Rattle.line.specs.declared.answer.Written.{Written}
 use Rattle.line.proofs.AllLaws.{all-at, all-fails, all_both, all_map, map_back}
 
 -- a digit is the number of its ones
@@ -113,11 +112,6 @@ flip_refused line i room e h b r = rw (length-set, le-ltb room (length line) r, 
 pub parity-made : (text : List ℕ) (room : ℕ) → all seven text ≡ true → length text ≤ room → parity_on text room ≡ done (map with_parity text)
 unfolding parity_on
 parity-made text room h l = rw (le-ltb room (length text) l, h)
-
--- and lie on the line
-pub parity-laid : {r : Written} (text m after : List ℕ) → all seven text ≡ true → length text ≤ length m → Wrote (parity_on text (length m)) r m after →
-    Laid (map with_parity text) (length text) m after
-parity-laid text m after h l w = record { counts = sym (length-map text with_parity); leaves = rw (parity-made text (length m) h l) at w.leaves }
 
 -- the line of a text gives the text back
 pub with_off : (text : List ℕ) (room : ℕ) → all seven text ≡ true → length text ≤ room → parity_off (map with_parity text) room ≡ done text

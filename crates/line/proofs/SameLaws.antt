@@ -2,14 +2,24 @@
 use mathlib.Core.Bool.{Bool, true, false, ◌&&◌, and_assoc, and-eq-true_iff, and-true}
 use mathlib.Core.List.{List, [], ◌∷◌, ◌++◌}
 use mathlib.Core.Path.{◌≡◌, refl, sym, ap, ◌∙◌}
-use Prim.Native.Nat.{ℕ, suc, ◌+◌, ◌-◌, ◌≤◌, ◌<◌}
-use native.Mathlib.Numerals.{add-one}
+use Prim.Native.Nat.{ℕ, suc, ◌-◌, ◌≤◌}
 use native.Mathlib.Omega.{arith}
-use borrow.Author.Tests.{eqb-true, eq-eqb, ne_eqb, leb-true, leb-false}
-use lib.Dec.{eqb, leb}
+use borrow.Author.Tests.{eqb-true, eq-eqb}
+use lib.Dec.{eqb}
 use lib.ListN.{length, get_or, take, drop, drop_of_length-le}
+use lib.Pointwise.{pointwise}
 use lib.Seq.{drop-cons}
 use Rattle.line.specs.Test.{same}
+
+-- the test of two numbers, turned about
+pub eqb_turned : (x y : ℕ) → eqb x y ≡ eqb y x
+eqb_turned x y = go (eqb x y) (eqb y x) refl refl
+  where
+    go : (a b : Bool) → eqb x y ≡ a → eqb y x ≡ b → a ≡ b
+    go true true e f = refl
+    go false false e f = refl
+    go true false e f = sym (eq-eqb y x (sym (eqb-true x y e))) ∙ f
+    go false true e f = sym e ∙ eq-eqb x y (sym (eqb-true y x f))
 
 -- the same lists are equal
 pub same_equal : (xs ys : List ℕ) → same xs ys ≡ true → xs ≡ ys
@@ -29,15 +39,6 @@ unfolding same
 same_self [] = refl
 same_self (x ∷ xs) = rw (eq-eqb x x refl, same_self xs)
 
--- nothing is left exactly from the end on
-pub none_left : (xs : List ℕ) (i : ℕ) → same (drop i xs) [] ≡ leb (length xs) i
-unfolding same
-none_left xs i = go (leb (length xs) i) refl
-  where
-    go : (b : Bool) → leb (length xs) i ≡ b → same (drop i xs) [] ≡ b
-    go true e = rw (drop_of_length-le xs (leb-true _ _ e))
-    go false e = rw (drop-cons xs i 0 (leb-false _ _ e))
-
 -- lists of different lengths are not the same
 pub same-lengths : (xs ys : List ℕ) → (length xs ≡ length ys → ⊥) → false ≡ same xs ys
 same-lengths xs ys h = go (same xs ys) refl
@@ -46,22 +47,13 @@ same-lengths xs ys h = go (same xs ys) refl
     go true e = absurd (h (ap length (same_equal xs ys e)))
     go false e = refl
 
--- a loop that has passed the members below i of two lists of one length: the rest decides
-module _ (xs ys : List ℕ) (i : ℕ) (l : length xs ≡ length ys) (rest : same xs ys ≡ same (drop i xs) (drop i ys)) where
-  -- the members at i are equal: the rest behind them decides
-  pub same-passed : get_or xs i 0 ≡ get_or ys i 0 → i < length xs → same xs ys ≡ same (drop (i + 1) xs) (drop (i + 1) ys)
-  unfolding same
-  same-passed e h = rest ∙ rw (add-one, drop-cons xs i 0 h, drop-cons ys i 0 (omega arith), eq-eqb (get_or xs i 0) (get_or ys i 0) e)
-
-  -- the members at i differ
-  pub same_failed : (get_or xs i 0 ≡ get_or ys i 0 → ⊥) → i < length xs → false ≡ same xs ys
-  unfolding same
-  same_failed e h = sym (rest ∙ rw (drop-cons xs i 0 h, drop-cons ys i 0 (omega arith), ne_eqb (get_or xs i 0) (get_or ys i 0) e))
-
-  -- none is left
-  pub same_ended : length xs ≤ i → true ≡ same xs ys
-  unfolding same
-  same_ended h = sym (rest ∙ rw (drop_of_length-le xs h, drop_of_length-le ys {i = i} (omega arith)))
+-- the test that two slices are equal, member by member
+pub same-pointwise : (xs ys : List ℕ) → pointwise eqb xs ys ≡ same xs ys
+unfolding same
+same-pointwise [] [] = refl
+same-pointwise [] (y ∷ ys) = refl
+same-pointwise (x ∷ xs) [] = refl
+same-pointwise (x ∷ xs) (y ∷ ys) = rw (same-pointwise xs ys)
 
 -- a list is the same as two joined where its front is the first and the rest the second
 pub same-append : (xs a b : List ℕ) → length a ≤ length xs → same xs (a ++ b) ≡ (same (take (length a) xs) a && same (drop (length a) xs) b)

@@ -15,6 +15,8 @@ use Rattle.line.specs.Character.{CR, seven, printable, textual}
 use Rattle.line.specs.Test.{all}
 use Rattle.line.specs.Transaction.{Fields, none, next, Transaction, ends_in_cr, legal, of_transaction}
 use Rattle.line.proofs.AllLaws.{all_append, all_weaken}
+use Rattle.line.proofs.SameLaws.{eqb_turned}
+use Rattle.std.specs.List.{ends_with}
 
 -- a textual character is printable or CR
 textual_cases : (c : ℕ) → textual c ≡ true → (printable c ≡ true) ⊎ (c ≡ CR)
@@ -51,12 +53,6 @@ unfolding ends_in_cr
 ends-joined s [] h = cc
 ends-joined s (c ∷ t) h = ends-append s c t ∙ h
 
--- nothing does not end in CR
-pub ends-none : (t : List ℕ) → length t ≡ 0 → ends_in_cr t ≡ false
-unfolding ends_in_cr
-ends-none [] e = refl
-ends-none (c ∷ t) e = absurd (omega arith)
-
 -- what ends in CR has a character
 pub ends_some : (t : List ℕ) → ends_in_cr t ≡ true → 1 ≤ length t
 unfolding ends_in_cr
@@ -69,6 +65,13 @@ unfolding ends_in_cr
 ends_last [] = refl
 ends_last (c ∷ []) = refl
 ends_last (c ∷ d ∷ t) = rw sub-one (rw sub-one at (ends_last (d ∷ t)))
+
+-- the library's test of an end of one character
+pub ends_with-cr : (t : List ℕ) → ends_with eqb t (CR ∷ []) ≡ ends_in_cr t
+unfolding ends_in_cr
+ends_with-cr [] = refl
+ends_with-cr (c ∷ []) = rw and-true (eqb_turned CR c)
+ends_with-cr (c ∷ d ∷ t) = rw sub-one (rw sub-one at (ends_with-cr (d ∷ t)))
 
 -- fields are made of characters of a transaction
 fields-textual : {fs : List (List ℕ)} {t : List ℕ} → Fields fs t → all textual t ≡ true

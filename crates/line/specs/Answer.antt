@@ -1,12 +1,8 @@
 -- What a call comes to, in document 01's numbers: what it makes, or the number of the refusal; its number and count.
 -- And what lent memory holds afterwards.
-use Rattle.std.specs.Prelude.{List, [], ◌++◌, ◌≡◌, ℕ, ltb, length, drop, if◌then◌else◌}
-use Rattle.line.specs.declared.answer.Checked.{Checked}
-use Rattle.line.specs.declared.answer.Checked.TheVariants as checked
+use Rattle.std.specs.Prelude.{List, [], ◌++◌, ◌≡◌, ℕ, ltb, length, drop, Result, Ok, Err, if◌then◌else◌}
 use Rattle.line.specs.declared.answer.Refusal.{Refusal}
 use Rattle.line.specs.declared.answer.Refusal.TheVariants.{Size, Length, Parity, Frame, Checksum, Information, Journal, Room, Range}
-use Rattle.line.specs.declared.answer.Written.{Written}
-use Rattle.line.specs.declared.answer.Written.TheVariants.{Count, Refused}
 
 -- document 01's number of each refusal ("Numbered returns") (R-11.1)
 abbrev pub refusal_number : Refusal → ℕ
@@ -25,15 +21,10 @@ pub data Outcome (A : Type 0) : Type 0 where
   done : A → Outcome A
   refused : ℕ → Outcome A
 
--- a writer's answer as document 01 gives it: the count, or the refusal's number (R-11.1)
-abbrev pub written_as : Written → Outcome ℕ
-written_as (Count n) = done n
-written_as (Refused r) = refused (refusal_number r)
-
--- the same of the answer of a test (R-11.1)
-abbrev pub checked_as : Checked → Outcome ℕ
-checked_as (checked.Count n) = done n
-checked_as (checked.Refused r) = refused (refusal_number r)
+-- an answer as document 01 gives it: what the call makes, or the refusal's number (R-11.1)
+abbrev pub outcome_of : {A : Type 0} → Result A Refusal → Outcome A
+outcome_of (Ok x) = done x
+outcome_of (Err r) = refused (refusal_number r)
 
 -- document 01's number of what a call comes to: 0 where it is done, else the refusal's ("Numbered returns") (R-11.1)
 abbrev pub number_of : {A : Type 0} → Outcome A → ℕ
@@ -70,8 +61,8 @@ pub record Laid (xs : List ℕ) (n : ℕ) (before after : List ℕ) : Type 0 whe
   pub leaves : after ≡ overlay xs before
 
 -- what a writer owes: it answers the outcome, and the memory keeps all but the bytes put out at its start (R-11.1)
-pub record Wrote (o : Outcome (List ℕ)) (r : Written) (before after : List ℕ) : Type 0 where
-  pub answers : written_as r ≡ map_done length o
+pub record Wrote (o : Outcome (List ℕ)) (r : Result ℕ Refusal) (before after : List ℕ) : Type 0 where
+  pub answers : outcome_of r ≡ map_done length o
   pub leaves : after ≡ overlay (output o) before
 
 -- bytes into a buffer of so many bytes: 1 where it is short (R-11.3)

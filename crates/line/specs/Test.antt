@@ -13,6 +13,11 @@ same [] (y ∷ ys) = false
 same (x ∷ xs) [] = false
 same (x ∷ xs) (y ∷ ys) = eqb x y && same xs ys
 
+-- how many members stand before the first that passes the test; all of them where none does (R-11.3)
+unfoldable pub before_first : (ℕ → Bool) → List ℕ → ℕ
+before_first p [] = 0
+before_first p (b ∷ bs) = if p b then 0 else suc (before_first p bs)
+
 -- how many members stand before the first y (R-11.3)
 unfoldable pub before : ℕ → List ℕ → ℕ
 before y [] = 0

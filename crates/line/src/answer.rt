@@ -1,9 +1,9 @@
-// The numbered refusals of document 01, and the answers of functions that write to lent memory or test what they are lent.
+// The numbered refusals of document 01, and number and count of a call's answer.
 ghost use Rattle.std.specs.Prelude.{◌≡◌};
-ghost use Rattle.line.specs.Answer.{checked_as, count_of, number_of, refusal_number, written_as};
+ghost use Rattle.line.specs.Answer.{count_of, number_of, outcome_of, refusal_number};
 
-// Why a call was refused. `number` gives document 01's number.
-#[derive(Clone, Copy)]
+// Why a call was refused. `u8::from` gives document 01's number.
+#[derive(Clone, Copy, Debug, PartialEq, Eq)]
 pub enum Refusal {
     // 1: an output or work buffer has the wrong size or is short.
     Size,
@@ -25,72 +25,37 @@ pub enum Refusal {
     Range,
 }
 
-// What a writer answers: how many bytes it put at the start of the lent memory, or why none.
-#[derive(Clone, Copy)]
-pub enum Written {
-    Count(usize),
-    Refused(Refusal),
+impl From<Refusal> for u8 {
+    ghost from_gives = { λ refusal number. number ≡ refusal_number refusal };
+
+    fn from(refusal: Refusal) -> u8 {
+        match refusal {
+            Refusal::Size => 1,
+            Refusal::Length => 2,
+            Refusal::Parity => 3,
+            Refusal::Frame => 4,
+            Refusal::Checksum => 5,
+            Refusal::Information => 6,
+            Refusal::Journal => 7,
+            Refusal::Room => 8,
+            Refusal::Range => 9,
+        }
+    }
 }
 
-// What a test answers that writes nothing: how many it has counted, or why it counts none.
-#[derive(Clone, Copy)]
-pub enum Checked {
-    Count(usize),
-    Refused(Refusal),
-}
-
-// Document 01's number of what a writer answers: 0 where it is done.
-pub fn code(written: Written) -> u8
-    ensures { result ≡ number_of (written_as written) }
+// Document 01's number of what a call answers: 0 where it is done.
+pub fn code<T: Copy>(answer: Result<T, Refusal>) -> u8
+    ensures { result ≡ number_of (outcome_of answer) }
 {
-    match written {
-        Written::Count(_) => 0,
-        Written::Refused(refusal) => number(refusal),
+    match answer {
+        Ok(_) => 0,
+        Err(refusal) => u8::from(refusal),
     }
 }
 
 // The count that goes with it: nought where it is refused.
-pub fn count(written: Written) -> usize
-    ensures { result ≡ count_of (written_as written) }
+pub fn count(answer: Result<usize, Refusal>) -> usize
+    ensures { result ≡ count_of (outcome_of answer) }
 {
-    match written {
-        Written::Count(n) => n,
-        Written::Refused(_) => 0,
-    }
-}
-
-// Document 01's number of what a test answers: 0 where it is done.
-pub fn checked_code(checked: Checked) -> u8
-    ensures { result ≡ number_of (checked_as checked) }
-{
-    match checked {
-        Checked::Count(_) => 0,
-        Checked::Refused(refusal) => number(refusal),
-    }
-}
-
-// The count that goes with it: nought where it is refused.
-pub fn checked_count(checked: Checked) -> usize
-    ensures { result ≡ count_of (checked_as checked) }
-{
-    match checked {
-        Checked::Count(n) => n,
-        Checked::Refused(_) => 0,
-    }
-}
-
-pub fn number(refusal: Refusal) -> u8
-    ensures { result ≡ refusal_number refusal }
-{
-    match refusal {
-        Refusal::Size => 1,
-        Refusal::Length => 2,
-        Refusal::Parity => 3,
-        Refusal::Frame => 4,
-        Refusal::Checksum => 5,
-        Refusal::Information => 6,
-        Refusal::Journal => 7,
-        Refusal::Room => 8,
-        Refusal::Range => 9,
-    }
+    answer.unwrap_or(0)
 }

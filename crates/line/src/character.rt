@@ -3,6 +3,8 @@ ghost use Rattle.std.specs.Prelude.{◌&&◌, ◌≡◌, leb};
 ghost use Rattle.line.specs.Class.{member};
 ghost use Rattle.line.specs.Test.{all};
 
+use crate::test::{Test, every};
+
 pub const STX: u8 = 0x02;
 
 pub const ETX: u8 = 0x03;
@@ -39,17 +41,19 @@ pub enum Class {
     Alphanumeric,
 }
 
+impl Test for Class {
+    ghost passes = { member };
+
+    fn is_passed(self, byte: u8) -> bool {
+        is(byte, self)
+    }
+}
+
 // Every byte is of the class.
 pub fn are(text: &[u8], class: Class) -> bool
     ensures { result ≡ all (member class) text.now }
 {
-    let mut every = true;
-    let mut i = 0;
-    while i < text.len() {
-        every = every & is(text[i], class);
-        i += 1;
-    }
-    every
+    every(text, class)
 }
 
 // The byte is of the class.
@@ -67,6 +71,7 @@ pub fn is(c: u8, class: Class) -> bool
     }
 }
 
+// Both ends are asked, and no branch is taken: tests of bytes vectorize.
 fn in_span(low: u8, c: u8, high: u8) -> bool
     ensures { result ≡ (leb low c && leb c high) }
 {

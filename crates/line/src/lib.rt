@@ -8,7 +8,8 @@ pub mod memory;
 pub mod parity;
 pub mod password;
 pub mod setting;
+pub mod test;
 pub mod transaction;
 
-pub use answer::{Checked, Refusal, Written};
+pub use answer::Refusal;
 pub use password::Password;

@@ -5,62 +5,67 @@ ghost use Rattle.line.specs.Character.{seven};
 ghost use Rattle.line.specs.Parity.{parity_on, parity_off, even, with_parity, seven_bits};
 ghost use Rattle.line.specs.Test.{all};
 
-use crate::answer::{Refusal, Written};
+use crate::answer::Refusal;
 use crate::character::{Class, are};
+use crate::test::{Test, every};
 
 // Characters to the line: each with bit 7 set so that its ones are even.
-pub fn set_parity(text: &[u8], out: &mut [u8]) -> Written
+pub fn set_parity(text: &[u8], out: &mut [u8]) -> Result<usize, Refusal>
     ensures { Wrote
         (parity_on text.now (length out.old))
         result out.old out.new }
 {
     if out.len() < text.len() {
-        return Written::Refused(Refusal::Size);
+        return Err(Refusal::Size);
     }
     if !are(text, Class::SevenBit) {
-        return Written::Refused(Refusal::Parity);
+        return Err(Refusal::Parity);
     }
     put_parity(text, out);
-    Written::Count(text.len())
+    Ok(text.len())
 }
 
 // Bytes of the line to characters: each tested for an even number of ones, and bit 7 taken off.
-pub fn clear_parity(line: &[u8], out: &mut [u8]) -> Written
+pub fn clear_parity(line: &[u8], out: &mut [u8]) -> Result<usize, Refusal>
     ensures { Wrote
         (parity_off line.now (length out.old))
         result out.old out.new }
 {
     if out.len() < line.len() {
-        return Written::Refused(Refusal::Size);
+        return Err(Refusal::Size);
     }
     if !is_even(line) {
-        return Written::Refused(Refusal::Parity);
+        return Err(Refusal::Parity);
     }
     take_parity(line, out);
-    Written::Count(line.len())
+    Ok(line.len())
 }
 
 // Every byte has an even number of ones.
 pub fn is_even(line: &[u8]) -> bool
     ensures { result ≡ all even line.now }
 {
-    let mut every = true;
-    let mut i = 0;
-    while i < line.len() {
-        every = every & (u8::count_ones(line[i]) % 2 == 0);
-        i += 1;
+    every(line, Even)
+}
+
+// A byte with an even number of ones.
+#[derive(Clone, Copy)]
+struct Even;
+
+impl Test for Even {
+    ghost passes = { λ _. even };
+
+    fn is_passed(self, byte: u8) -> bool {
+        byte.count_ones() % 2 == 0
     }
-    every
 }
 
 fn put_parity(text: &[u8], out: &mut [u8])
     requires { (all seven text.now ≡ true) × (length text.now ≤ length out.old) }
     ensures { out.new ≡ overlay (map with_parity text.now) out.old }
 {
-    let mut i = 0;
-    while i < text.len() {
-        out[i] = with_parity(text[i]);
-        i += 1;
+    for (i, &c) in text.iter().enumerate() {
+        out[i] = with_parity(c);
     }
 }
 
@@ -68,10 +73,8 @@ fn take_parity(line: &[u8], out: &mut [u8])
     requires { length line.now ≤ length out.old }
     ensures { out.new ≡ overlay (map seven_bits line.now) out.old }
 {
-    let mut i = 0;
-    while i < line.len() {
-        out[i] = line[i] % 0x80;
-        i += 1;
+    for (i, b) in line.iter().enumerate() {
+        out[i] = b % 0x80;
     }
 }
 

@@ -4,6 +4,7 @@ ghost use Rattle.line.specs.Password.{password_in_range};
 
 use crate::character::{Class, are};
 
+// An array with its length beside: there is no heap, and C has the same record.
 #[derive(Clone, Copy)]
 pub struct Password {
     pub characters: [u8; 6],

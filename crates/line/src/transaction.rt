@@ -1,32 +1,32 @@
 // A transaction's information, tested as document 01 describes it.
 ghost use Rattle.std.specs.Prelude.{◌≡◌, length};
-ghost use Rattle.line.specs.Answer.{checked_as, done};
+ghost use Rattle.line.specs.Answer.{outcome_of, done};
 ghost use Rattle.line.specs.Transaction.{ends_in_cr, legal, of_transaction};
 
-use crate::answer::{Checked, Refusal};
+use crate::answer::Refusal;
 use crate::character::{CR, Class, are};
 
 // The most characters of a transaction's information.
 pub const MOST_INFORMATION: usize = 2000;
 
 // The length of the information of a transaction, or why it is none.
-pub fn check_transaction(info: &[u8]) -> Checked
-    ensures { checked_as result ≡ of_transaction info.now (done (length info.now)) }
+pub fn check_transaction(info: &[u8]) -> Result<usize, Refusal>
+    ensures { outcome_of result ≡ of_transaction info.now (done (length info.now)) }
 {
     let n = info.len();
     if is_legal(info) {
-        return Checked::Count(n);
+        return Ok(n);
     }
     if n < 1 {
-        return Checked::Refused(Refusal::Length);
+        return Err(Refusal::Length);
     }
     if MOST_INFORMATION < n {
-        return Checked::Refused(Refusal::Length);
+        return Err(Refusal::Length);
     }
     if !are(info, Class::SevenBit) {
-        return Checked::Refused(Refusal::Parity);
+        return Err(Refusal::Parity);
     }
-    Checked::Refused(Refusal::Information)
+    Err(Refusal::Information)
 }
 
 // The information is that of a legal transaction.
@@ -43,9 +43,5 @@ pub fn is_legal(info: &[u8]) -> bool
 pub fn ends_in_cr(text: &[u8]) -> bool
     ensures { result ≡ ends_in_cr text.now }
 {
-    let n = text.len();
-    if n == 0 {
-        return false;
-    }
-    text[n - 1] == CR
+    text.ends_with(&[CR])
 }

@@ -12,20 +12,17 @@ use borrow.Author.Tests.{le-leb, lt-ltb, ltb-true, ltb-false, leb-true, eqb-true
 use lib.Dec.{eqb, leb, ltb, leb-suc-suc}
 use lib.ListN.{length, get_or, take, drop, set, length-append, length-set, length-take, length-drop, take-append-drop}
 use lib.Seq.{take_all, length-take-le, take_at, drop_at, drop-drop, take-append-le, drop-append-le, set_split, set_out, drop-set-lt, drop-set-add, get_or-set_same, get_or-set_other, get_or-take, get_or-drop}
-use Rattle.line.specs.Answer.{done, refusal_number, overlay, copied, Laid, Wrote}
+use Rattle.line.specs.Answer.{done, refusal_number, overlay, Laid}
 use Rattle.line.specs.Character.{STX, ETX, ETB, US, CR, LF, seven, printable}
 use Rattle.line.specs.Test.{all, before}
 use Rattle.line.specs.Text.{bytes_of}
 use Rattle.line.specs.Transaction.{ends_in_cr}
 use Rattle.line.specs.declared.answer.Refusal.{Refusal}
 use Rattle.line.specs.declared.answer.Refusal.TheVariants.{Size, Length, Parity, Frame, Checksum, Information, Journal, Room, Range}
-use Rattle.line.specs.declared.answer.Written.{Written}
 use Rattle.line.proofs.AllLaws.{all_append, all_take, all-at}
-use Rattle.line.proofs.CopyLaws.{copied-part}
 use Rattle.line.proofs.FlatLaws.{flat_append, flat_snoc, flat_bound}
 use Rattle.line.proofs.ListLaws.{take_min}
 use Rattle.line.proofs.OutcomeLaws.{choice, passed}
-use Rattle.line.proofs.OverlayLaws.{overlay-own}
 use Rattle.line.proofs.TransactionLaws.{ends_last}
 use Rattle.block.specs.Block.{ending_character, summed, block_of}
 use Rattle.block.specs.Checksum.{value_sum, checksum, added, check_characters}
@@ -88,18 +85,6 @@ refusal_digit Range = omega arith
 -- nothing is put
 pub added_none : (m : List ℕ) → Added 0 [] 0 m m
 added_none m = record { ends = refl; leaves = refl }
-
--- what is copied to the memory from a place on
-pub copied-added : {r : Written} (at : ℕ) (xs m after : List ℕ) → at + length xs ≤ length m →
-    Wrote (copied xs (length (take (length m - at) (drop at m)))) r (take (length m - at) (drop at m)) after →
-    Added at xs (at + length xs) m (take at m ++ (after ++ drop (length m - at) (drop at m)))
-unfolding overlay
-copied-added at xs m after h w =
-    let start = length-take-le at m (omega arith) in
-    record {
-      ends = refl;
-      leaves = copied-part (take at m) xs m m after at (overlay-own at m (omega arith)) start h w ∙ rw (length-append, start, append_assoc);
-    }
 
 module _ {at n : ℕ} {xs m out : List ℕ} (d : Added at xs n m out) where
   -- what is put at the start is laid there

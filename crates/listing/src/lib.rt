@@ -1,9 +1,9 @@
 // What the program `blocks` prints for one line of its input.
 #![tactic(auto)]
 
-ghost use Rattle.std.specs.Prelude.{true, ◌≡◌, ◌+◌, ◌-◌, ◌%◌, ◌<◌, ◌≤◌, min, ltb, length, set, if◌then◌else◌};
+ghost use Rattle.std.specs.Prelude.{true, ◌≡◌, ◌+◌, ◌-◌, ◌%◌, ◌<◌, ◌≤◌, ltb, length, set, if◌then◌else◌};
 ghost use mathlib.Core.List.{◌++◌, flat_map};
-ghost use Rattle.line.specs.Answer.{Laid, Wrote, checked_as, done, refusal_number};
+ghost use Rattle.line.specs.Answer.{Laid, Wrote, done, outcome_of, refusal_number};
 ghost use Rattle.line.specs.Character.{CR, printable};
 ghost use Rattle.line.specs.Test.{all};
 ghost use Rattle.block.specs.Checksum as Checksum;
@@ -13,10 +13,9 @@ ghost use Rattle.listing.specs.Listing.{printed_block, printed_blocks, printed_r
 
 use block::checksum::{add, checksum, sum_characters};
 use block::frame::INFORMATION;
-use line::answer::number;
+use line::Refusal;
 use line::character::{CR, Class, ETB, ETX, LF, STX, US, are};
-use line::memory::{copy, find};
-use line::{Checked, Refusal, Written};
+use line::memory::find;
 
 // Room for what any line prints.
 pub const ROOM: usize = 10248;
@@ -29,38 +28,38 @@ const CR_FOR_SPACE: u16 = 4077;
 
 // The blocks of the transaction that a line is, cut at its first space into two fields, each block
 // printed on a line of its own; or the line `refused` with the number.
-pub fn list(line: &[u8], out: &mut [u8]) -> Written
+pub fn list(line: &[u8], out: &mut [u8]) -> Result<usize, Refusal>
     ensures { Wrote
         (listed line.now (length out.old))
         result out.old out.new }
 {
     if out.len() < ROOM {
-        return Written::Refused(Refusal::Size);
+        return Err(Refusal::Size);
     }
     match check(line) {
-        Checked::Refused(refusal) => Written::Count(put_refusal(refusal, out)),
-        Checked::Count(space) => Written::Count(put_line(line, space, out)),
+        Ok(space) => Ok(put_line(line, space, out)),
+        Err(refusal) => Ok(put_refusal(refusal, out)),
     }
 }
 
 // The place of the line's first space; or why it has no blocks.
-fn check(line: &[u8]) -> Checked
-    ensures { checked_as result ≡ checked_line line.now }
+fn check(line: &[u8]) -> Result<usize, Refusal>
+    ensures { outcome_of result ≡ checked_line line.now }
 {
     if LINE < line.len() {
-        return Checked::Refused(Refusal::Length);
+        return Err(Refusal::Length);
     }
     if !are(line, Class::Printable) {
         if are(line, Class::SevenBit) {
-            return Checked::Refused(Refusal::Information);
+            return Err(Refusal::Information);
         }
-        return Checked::Refused(Refusal::Parity);
+        return Err(Refusal::Parity);
     }
     let space = find(line, 0, b' ');
     if space == line.len() {
-        return Checked::Refused(Refusal::Information);
+        return Err(Refusal::Information);
     }
-    Checked::Count(space)
+    Ok(space)
 }
 
 // The refusal on a line of its own.
@@ -69,7 +68,7 @@ fn put_refusal(refusal: Refusal, out: &mut [u8]) -> usize
     ensures { Laid (printed_refusal (refusal_number refusal)) result out.old out.new }
 {
     let mut text = *b"refused 0\n";
-    text[8] = 0x30 + number(refusal);
+    text[8] = b'0' + u8::from(refusal);
     put_text(&text, out, 0)
 }
 
@@ -80,11 +79,9 @@ fn put_line(line: &[u8], space: usize, out: &mut [u8]) -> usize
     ensures { Laid (printed_blocks (fields_of line.now)) result out.old out.new }
 {
     let last = line.len() / INFORMATION;
-    let mut index = 0;
     let mut at = 0;
-    while index < last {
+    for index in 0..last {
         at = put_block(line, space, index, out, at);
-        index += 1;
     }
     put_block(line, space, last, out, at)
 }
@@ -100,14 +97,8 @@ fn put_block(line: &[u8], space: usize, index: usize, out: &mut [u8], at: usize)
 {
     let from = INFORMATION * index;
     let full = from + INFORMATION;
-    let end = least(line.len(), full);
+    let end = line.len().min(full);
     put_part(&line[from..end], place(space, from), end < full, out, at)
-}
-
-fn least(a: usize, b: usize) -> usize
-    ensures { result ≡ min a b }
-{
-    if a < b { a } else { b }
 }
 
 // The place of the space in the characters of a block that start there; one behind them where it
@@ -182,11 +173,12 @@ fn put_end(names: &[u8], sum: u16, out: &mut [u8], at: usize) -> usize
     put_text(&line_end, out, end)
 }
 
-// A text, behind what is there.
+// A text, behind what is there. `export` has the same: it asks for room, and no public function asks anything.
 fn put_text(text: &[u8], out: &mut [u8], at: usize) -> usize
     requires { at + length text.now ≤ length out.old }
     ensures { Added at text.now result out.old out.new }
 {
-    copy(text, &mut out[at..]);
-    at + text.len()
+    let end = at + text.len();
+    out[at..end].copy_from_slice(text);
+    end
 }

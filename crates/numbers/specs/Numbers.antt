@@ -1,6 +1,6 @@
 -- Document 01's starred numbers ("Numbers to hold it to"), as one table under one statement, `AllHold table`, which
 -- `proofs/Numbers` proves.
-use Rattle.std.specs.Prelude.{List, [], ◌∷◌, ◌++◌, map, ◌≡◌, ℕ, length, replicate}
+use Rattle.std.specs.Prelude.{List, [], ◌∷◌, ◌++◌, map, ◌≡◌, ℕ, Some, None, length, replicate}
 use Rattle.line.specs.Character.{STX, ETX, EOT, ACK, LF, CR, NAK, ETB, RS, US}
 use Rattle.line.specs.Parity.{with_parity}
 use Rattle.line.specs.Text.{bytes_of}
@@ -10,10 +10,8 @@ use Rattle.block.specs.Segments.{segment}
 use Rattle.block.specs.declared.frame.Ending.TheVariants.{Etx}
 use Rattle.segmentation.specs.Segmentation.{segmentation, segment_at}
 use Rattle.journal.specs.Encoding.{encode}
-use Rattle.reply.specs.Reading.{reply_read}
+use Rattle.reply.specs.Reading.{Reply, reply_read}
 use Rattle.reply.specs.declared.Meaning.TheVariants.{Ack, Rs}
-use Rattle.reply.specs.declared.Reply.{Reply}
-use Rattle.reply.specs.declared.Reply.TheVariants.{Recognized, Unrecognized}
 
 -- a row: what the definitions give, and what the document says
 pub data Row : Type 0 where
@@ -107,7 +105,7 @@ table =
     bytes (encode (page ∷ [])) (0x31 ∷ 0x32 ∷ 0x33 ∷ 0x0D ∷ 0x41 ∷ 0x42 ∷ 0x43 ∷ 0x0D ∷ 0x00 ∷ 0x08 ∷ 0x00 ∷ 0x01 ∷ 0x00 ∷ 0x0A ∷ []) ∷
     bytes (encode []) (0 ∷ 0 ∷ 0 ∷ 0 ∷ []) ∷
     -- "ACK CR is ACK; CR ACK is unread; `OK` CR RS CR LF is RS; ACK CR CR is unread"
-    reply (read_of (ACK ∷ CR ∷ [])) (Recognized Ack) ∷
-    reply (read_of (CR ∷ ACK ∷ [])) Unrecognized ∷
-    reply (read_of (bytes_of "OK" ++ CR ∷ RS ∷ CR ∷ LF ∷ [])) (Recognized Rs) ∷
-    reply (read_of (ACK ∷ CR ∷ CR ∷ [])) Unrecognized ∷ []
+    reply (read_of (ACK ∷ CR ∷ [])) (Some Ack) ∷
+    reply (read_of (CR ∷ ACK ∷ [])) None ∷
+    reply (read_of (bytes_of "OK" ++ CR ∷ RS ∷ CR ∷ LF ∷ [])) (Some Rs) ∷
+    reply (read_of (ACK ∷ CR ∷ CR ∷ [])) None ∷ []

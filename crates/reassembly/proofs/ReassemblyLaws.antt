@@ -1,6 +1,6 @@
 -- Laws of reassembly: every legal segmentation of a transaction is joined to that transaction again, and no other blocks are; a state is in range exactly if the start leads to it;
 -- and the ways to have `Joined` of a step. All of them go by what one step does to what has been joined so far.
-use Rattle.std.specs.Prelude.{if◌then◌else◌}
+use Rattle.std.specs.Prelude.{Ok, Err, if◌then◌else◌}
 use mathlib.Core.Bool.{Bool, true, false, not, false≢true, and-eq-true_iff}
 use mathlib.Core.List.{List, [], ◌∷◌, ◌++◌, map, append_assoc}
 use mathlib.Core.Path.{◌≡◌, refl, sym, ap, subst, ◌∙◌}
@@ -29,7 +29,6 @@ use Rattle.block.proofs.FrameLaws.{block-length, write_read, read_done, read_wri
 use Rattle.block.proofs.SegmentsLaws.{last-ends, joined-textual, joined-legal}
 use Rattle.reassembly.specs.Reassembly.{so_far, in_range, Progress, join, join_block, Joined, start, rejoin, Reached, begun, onward}
 use Rattle.reassembly.specs.declared.Reassembly.{Reassembly}
-use Rattle.reassembly.specs.declared.Reassembled.TheVariants.{Next, Refused}
 
 -- so many characters joined, the whole transaction or not, and which they are
 abbrev progress : ℕ → Bool → List ℕ → Progress
@@ -284,9 +283,9 @@ join-found r buffer s info e h k =
     (rw found (read_length s g reads), rw (reads, found, same))
 
 -- a refusal that leaves the buffer alone
-pub joined-refused : {o : Outcome Progress} (r : Refusal) (buffer : List ℕ) → o ≡ refused (refusal_number r) → Joined o (Refused r) buffer buffer
+pub joined-refused : {o : Outcome Progress} (r : Refusal) (buffer : List ℕ) → o ≡ refused (refusal_number r) → Joined o (Err r) buffer buffer
 joined-refused r buffer e = record { answers = rw e; leaves = rw e (overlay-none buffer) }
 
 -- a state, with what was laid over the start
-pub joined-next : {o : Outcome Progress} (p : Progress) (before after : List ℕ) → o ≡ done p → after ≡ overlay p.joined before → Joined o (Next p.state) before after
+pub joined-next : {o : Outcome Progress} (p : Progress) (before after : List ℕ) → o ≡ done p → after ≡ overlay p.joined before → Joined o (Ok p.state) before after
 joined-next p before after e l = record { answers = rw e; leaves = rw e l }

@@ -1,14 +1,13 @@
 -- Joining blocks to a transaction again, a block at a time, in a lent buffer.
-use Rattle.std.specs.Prelude.{Bool, true, false, not, ◌&&◌, List, [], ◌∷◌, ◌++◌, ◌≡◌, ℕ, ◌+◌, ◌-◌, leb, ltb, length, take, if◌then◌else◌}
-use Rattle.line.specs.Answer.{Outcome, done, refused, refusal_number, map_done, and_then, output, overlay}
+use Rattle.std.specs.Prelude.{Bool, true, false, not, ◌&&◌, List, [], ◌∷◌, ◌++◌, ◌≡◌, ℕ, ◌+◌, ◌-◌, leb, ltb, length, take, Result, if◌then◌else◌}
+use Rattle.line.specs.Answer.{Outcome, done, refused, map_done, and_then, outcome_of, output, overlay}
+use Rattle.line.specs.declared.answer.Refusal.{Refusal}
 use Rattle.line.specs.Character.{textual}
 use Rattle.line.specs.Test.{all}
 use Rattle.line.specs.Transaction.{ends_in_cr}
 use Rattle.block.specs.Block.{Segment, read_block}
 use Rattle.block.specs.Segments.{continues}
 use Rattle.reassembly.specs.declared.Reassembly.{Reassembly}
-use Rattle.reassembly.specs.declared.Reassembled.{Reassembled}
-use Rattle.reassembly.specs.declared.Reassembled.TheVariants.{Next, Refused}
 
 -- what has been joined so far: it lies at the start of the buffer (R-4.1)
 abbrev pub so_far : Reassembly → List ℕ → List ℕ
@@ -44,14 +43,9 @@ join_block r buffer s =
     else if ltb 2000 (r.length + (length s - 6)) then refused 2
     else and_then (read_block s) (join r buffer)
 
--- an answer as document 01 gives it: 0 with the next state, or the refusal's number
-abbrev pub reassembled_as : Reassembled → Outcome Reassembly
-reassembled_as (Next r) = done r
-reassembled_as (Refused r) = refused (refusal_number r)
-
 -- what a step of reassembly owes: the next state, and the buffer with what is joined at its start and all else kept (R-4.1)
-pub record Joined (o : Outcome Progress) (r : Reassembled) (before after : List ℕ) : Type 0 where
-  pub answers : reassembled_as r ≡ map_done (λ p. p.state) o
+pub record Joined (o : Outcome Progress) (r : Result Reassembly Refusal) (before after : List ℕ) : Type 0 where
+  pub answers : outcome_of r ≡ map_done (λ p. p.state) o
   pub leaves : after ≡ overlay (output (map_done (λ p. p.joined) o)) before
 
 -- ── From the start on ──

@@ -1,5 +1,5 @@
 -- The reader is the grammar: what it recognizes a text as is what the text means, and it recognizes every text that means something.
-use Rattle.std.specs.Prelude.{if◌then◌else◌}
+use Rattle.std.specs.Prelude.{Some, None, if◌then◌else◌}
 use mathlib.Core.Bool.{Bool, true, false, not, false≢true, and-eq-true_iff}
 use mathlib.Core.List.{List, [], ◌∷◌, ◌++◌, map, append_assoc}
 use mathlib.Core.Path.{◌≡◌, refl}
@@ -15,17 +15,15 @@ use Rattle.line.specs.Test.{all, same}
 use Rattle.line.specs.Text.{bytes_of}
 use Rattle.line.proofs.ParityLaws.{flip_odd}
 use Rattle.reply.specs.Grammar.{LineEnd, Lines, line, Code, ack, nak, rs, eot, Means, reply, acceptance, request, Recognizes}
-use Rattle.reply.specs.Reading.{rest_after, after_lines, ends, begins, closes, requests, accepts, code_read, text_read, recognized_in, reply_read}
+use Rattle.reply.specs.Reading.{Reply, rest_after, after_lines, ends, begins, closes, requests, accepts, code_read, text_read, recognized_in, reply_read}
 use Rattle.reply.specs.declared.Meaning.{Meaning}
 use Rattle.reply.specs.declared.Meaning.TheVariants.{IdRequest, Acceptance, Ack, Nak, Rs, Eot}
-use Rattle.reply.specs.declared.Reply.{Reply}
-use Rattle.reply.specs.declared.Reply.TheVariants.{Recognized, Unrecognized}
 use Rattle.reply.proofs.LinesLaws.{lines_split, end-split, lines-passed, no_line}
 use Rattle.reply.proofs.TestLaws.{begins-split, closes-split, requests-split, ends-end, code_read_lem, code_no_line, request-read, end_only, prompt_closes, end-begins}
 
 -- a choice recognized as m: by its test, or by the others
 tried : {text : List ℕ} {k m : Meaning} {others : Reply} (test : Bool) →
-    (test ≡ true → Means k text) → (others ≡ Recognized m → Means m text) → (if test then Recognized k else others) ≡ Recognized m → Means m text
+    (test ≡ true → Means k text) → (others ≡ Some m → Means m text) → (if test then Some k else others) ≡ Some m → Means m text
 tried {k} {m} true f g h = let e : k ≡ m = cc in rw e at (f refl)
 tried false f g h = g h
 
@@ -50,7 +48,7 @@ accepts-means {before} rest l h =
         rw (q, q') (simp append_assoc (simp append_assoc at (acceptance l e b e')))
 
 -- lines, then what is recognized behind them
-code_means : {before : List ℕ} (rest : List ℕ) (m : Meaning) → Lines before → code_read rest ≡ Recognized m → Means m (before ++ rest)
+code_means : {before : List ℕ} (rest : List ℕ) (m : Meaning) → Lines before → code_read rest ≡ Some m → Means m (before ++ rest)
 unfolding code_read
 code_means rest m l =
     tried _ (closes-means rest l ack) (
@@ -60,7 +58,7 @@ code_means rest m l =
     tried _ (accepts-means rest l) (λ h. absurd (false≢true cc))))))
 
 -- sound: what is recognized is what the text means
-pub read-means : (text : List ℕ) (m : Meaning) → text_read text ≡ Recognized m → Means m text
+pub read-means : (text : List ℕ) (m : Meaning) → text_read text ≡ Some m → Means m text
 unfolding text_read
 read-means text m =
     tried (requests text)
@@ -68,11 +66,11 @@ read-means text m =
     (λ h. let (before, l, e) = lines_split text in rw e (code_means (after_lines text) m l h))
 
 -- what is recognized behind the lines is recognized: such a text is no ID request
-behind-read : (text : List ℕ) (m : Meaning) → code_read (after_lines text) ≡ Recognized m → text_read text ≡ Recognized m
+behind-read : (text : List ℕ) (m : Meaning) → code_read (after_lines text) ≡ Some m → text_read text ≡ Some m
 unfolding text_read
 behind-read text m h = go (requests text) refl
   where
-    go : (b : Bool) → requests text ≡ b → (if b then Recognized IdRequest else code_read (after_lines text)) ≡ Recognized m
+    go : (b : Bool) → requests text ≡ b → (if b then Some IdRequest else code_read (after_lines text)) ≡ Some m
     go true r =
         let (space, close, s, c, e) = requests-split text r in
         let (_, n) = request-read s c in
@@ -80,16 +78,16 @@ behind-read text m h = go (requests text) refl
     go false r = h
 
 -- ACK and the end of its line, with the rest of an acceptance behind the lines, is recognized: the text does not end with that line
-accepted-read : {end : List ℕ} (text : List ℕ) → begins (CR ∷ []) text ≡ true → LineEnd end → after_lines text ≡ ESC ∷ bytes_of "[p" ++ end → code_read (ACK ∷ text) ≡ Recognized Acceptance
+accepted-read : {end : List ℕ} (text : List ℕ) → begins (CR ∷ []) text ≡ true → LineEnd end → after_lines text ≡ ESC ∷ bytes_of "[p" ++ end → code_read (ACK ∷ text) ≡ Some Acceptance
 unfolding code_read accepts same
 accepted-read text start e q = go (ends text) refl
   where
-    go : (b : Bool) → ends text ≡ b → code_read (ACK ∷ text) ≡ Recognized Acceptance
+    go : (b : Bool) → ends text ≡ b → code_read (ACK ∷ text) ≡ Some Acceptance
     go true h = let n = end_only (ends-end text h) in cc
     go false h = rw (h, start, q, prompt_closes e)
 
 -- complete: what a text means is what it is recognized as
-pub means-read : {text : List ℕ} {m : Meaning} → Means m text → text_read text ≡ Recognized m
+pub means-read : {text : List ℕ} {m : Meaning} → Means m text → text_read text ≡ Some m
 unfolding text_read all
 means-read (reply {m} {before} {code} {end} l c e) =
     behind-read _ m (rw (append_assoc, lines-passed (code ++ end) l (code_no_line end c) false) (code_read_lem c e))
@@ -104,18 +102,18 @@ means-read (acceptance {before} {end} {between} {end'} l e b e') =
 means-read (request s c) = rw (request-read s c).0
 
 -- sound, off the line
-pub recognized : (bytes : List ℕ) (m : Meaning) → reply_read bytes ≡ Recognized m → Recognizes m bytes
+pub recognized : (bytes : List ℕ) (m : Meaning) → reply_read bytes ≡ Some m → Recognizes m bytes
 unfolding reply_read parity_off
 recognized bytes m = go (ltb 256 (length bytes)) (all even bytes) refl refl
   where
     go : (long right : Bool) → ltb 256 (length bytes) ≡ long → all even bytes ≡ right →
-        recognized_in (if long then refused 1 else if not right then refused 3 else done (map seven_bits bytes)) ≡ Recognized m → Recognizes m bytes
+        recognized_in (if long then refused 1 else if not right then refused 3 else done (map seven_bits bytes)) ≡ Some m → Recognizes m bytes
     go true right l p h = absurd (false≢true cc)
     go false true l p h = record { within = ltb-false 256 (length bytes) l; parity = p; means = read-means (map seven_bits bytes) m h }
     go false false l p h = absurd (false≢true cc)
 
 -- complete, off the line
-pub recognizes : {bytes : List ℕ} {m : Meaning} → Recognizes m bytes → reply_read bytes ≡ Recognized m
+pub recognizes : {bytes : List ℕ} {m : Meaning} → Recognizes m bytes → reply_read bytes ≡ Some m
 unfolding reply_read parity_off
 recognizes {bytes} r = rw (le-ltb 256 (length bytes) r.within, r.parity) (means-read r.means)
 
@@ -124,31 +122,31 @@ pub one_meaning : {bytes : List ℕ} {m m' : Meaning} → Recognizes m bytes →
 one_meaning r r' = cc (recognizes r, recognizes r')
 
 -- nothing came: it is not recognized
-pub empty-unrecognized : reply_read [] ≡ Unrecognized
+pub empty-unrecognized : reply_read [] ≡ None
 unfolding reply_read parity_off all text_read requests code_read accepts same rest_after
 empty-unrecognized = refl
 
 -- a first byte of odd parity: the string is not recognized
-pub odd_unrecognized : (b : ℕ) (bs : List ℕ) → even b ≡ false → reply_read (b ∷ bs) ≡ Unrecognized
+pub odd_unrecognized : (b : ℕ) (bs : List ℕ) → even b ≡ false → reply_read (b ∷ bs) ≡ None
 unfolding reply_read parity_off all
 odd_unrecognized b bs h = rw h (go (ltb 256 (length (b ∷ bs))))
   where
-    go : (long : Bool) → recognized_in (if long then refused 1 else refused 3) ≡ Unrecognized
+    go : (long : Bool) → recognized_in (if long then refused 1 else refused 3) ≡ None
     go true = refl
     go false = refl
 
 -- nor is one with parity whose first byte had its bit 7 flipped
-pub flipped_unrecognized : (b : ℕ) (bs : List ℕ) → b < 0x100 → even b ≡ true → reply_read (flip_top b ∷ bs) ≡ Unrecognized
+pub flipped_unrecognized : (b : ℕ) (bs : List ℕ) → b < 0x100 → even b ≡ true → reply_read (flip_top b ∷ bs) ≡ None
 flipped_unrecognized b bs l e = odd_unrecognized (flip_top b) bs (flip_odd b l e)
 
 -- what a central writes, with parity, is recognized as meant
 pub record WrittenRead : Type 0 where
-  pub id_request-read : reply_read (map with_parity (bytes_of "ID=" ++ CR ∷ [])) ≡ Recognized IdRequest
-  pub acceptance-read : reply_read (map with_parity (CR ∷ ACK ∷ CR ∷ ESC ∷ bytes_of "[p" ++ CR ∷ [])) ≡ Recognized Acceptance
-  pub ack-read : reply_read (map with_parity (CR ∷ ACK ∷ CR ∷ [])) ≡ Recognized Ack
-  pub nak-read : reply_read (map with_parity (CR ∷ NAK ∷ CR ∷ [])) ≡ Recognized Nak
-  pub rs-read : reply_read (map with_parity (CR ∷ RS ∷ CR ∷ [])) ≡ Recognized Rs
-  pub eot-read : reply_read (map with_parity (CR ∷ ESC ∷ EOT ∷ CR ∷ [])) ≡ Recognized Eot
+  pub id_request-read : reply_read (map with_parity (bytes_of "ID=" ++ CR ∷ [])) ≡ Some IdRequest
+  pub acceptance-read : reply_read (map with_parity (CR ∷ ACK ∷ CR ∷ ESC ∷ bytes_of "[p" ++ CR ∷ [])) ≡ Some Acceptance
+  pub ack-read : reply_read (map with_parity (CR ∷ ACK ∷ CR ∷ [])) ≡ Some Ack
+  pub nak-read : reply_read (map with_parity (CR ∷ NAK ∷ CR ∷ [])) ≡ Some Nak
+  pub rs-read : reply_read (map with_parity (CR ∷ RS ∷ CR ∷ [])) ≡ Some Rs
+  pub eot-read : reply_read (map with_parity (CR ∷ ESC ∷ EOT ∷ CR ∷ [])) ≡ Some Eot
 
 -- it is, by computation
 pub written_read : WrittenRead

@@ -1,8 +1,8 @@
 -- The remarks are the grammar's: the computation shows of every reply where the lines of its derivation stand; they lie within it.
-use Rattle.std.specs.Prelude.{if◌then◌else◌}
+use Rattle.std.specs.Prelude.{Option, Some, None, if◌then◌else◌}
 use mathlib.Core.Bool.{Bool, true, false, false≢true, and-eq-true_iff}
 use mathlib.Core.List.{List, [], ◌∷◌, ◌++◌, foldl, foldl-append, map, append_assoc, append-nil}
-use mathlib.Core.Path.{◌≡◌, refl, sym, ◌∙◌}
+use mathlib.Core.Path.{◌≡◌, refl, sym, ap, ◌∙◌}
 use Prim.Native.Nat.{ℕ, ◌+◌, ◌≤◌}
 use native.Mathlib.Omega.{arith}
 use lib.Count.{ones}
@@ -13,16 +13,11 @@ use Rattle.line.specs.Parity.{with_parity, parity_off}
 use Rattle.line.specs.Test.{all, same}
 use Rattle.line.specs.Text.{bytes_of}
 use Rattle.reply.specs.Grammar.{cr, crlf, Lines, none, line, Code, ack, nak, rs, eot, Means, reply, acceptance, request, Recognizes}
-use Rattle.reply.specs.Reading.{rest_after, requests, accepts, code_read, text_read, reply_read}
-use Rattle.reply.specs.Remarks.{span, Line, line_at, is_id, place_of, NoId, empty, other, LastId, last, missing, later_of, newer, last_id, lines_from, as_remarks, remarks_in, Shows, unrecognized, IdWithin, Inside, of_line, before_code, lines_in, lines_shown, has_lines, remarks_of, remarks_read}
+use Rattle.reply.specs.Reading.{Reply, rest_after, requests, accepts, code_read, text_read, reply_read}
+use Rattle.reply.specs.Remarks.{span, remarks, Line, line_at, is_id, place_of, NoId, empty, other, LastId, last, missing, later_of, newer, last_id, lines_from, as_remarks, remarks_in, Shows, unrecognized, IdWithin, Inside, of_line, before_code, lines_in, lines_shown, has_lines, remarks_of, remarks_read}
 use Rattle.reply.specs.Remarks as Spec
 use Rattle.reply.specs.declared.Meaning.{Meaning}
-use Rattle.reply.specs.declared.Reply.{Reply}
-use Rattle.reply.specs.declared.Reply.TheVariants.{Recognized, Unrecognized}
-use Rattle.reply.specs.declared.remarks.IdLine.{IdLine}
-use Rattle.reply.specs.declared.remarks.IdLine.TheVariants as Id
 use Rattle.reply.specs.declared.remarks.Remarks.{Remarks}
-use Rattle.reply.specs.declared.remarks.Remarks.TheVariants as Remark
 use Rattle.reply.specs.declared.remarks.Span.{Span}
 use Rattle.reply.proofs.GrammarLaws.{recognized, recognizes}
 
@@ -87,11 +82,11 @@ code_lines rs = refl
 code_lines eot = refl
 
 -- of every text that means something
-means-shown : {m : Meaning} {text : List ℕ} (d : Means m text) → (if has_lines m then lines_shown text else Remark.Nothing) ≡ remarks_in d
-means-shown (reply {end = end} l c e) = rw (code_lines c) (lines-shown _ l (rw append_assoc (code_before end l c)))
+means-shown : {m : Meaning} {text : List ℕ} (d : Means m text) → (if has_lines m then Some (lines_shown text) else None) ≡ remarks_in d
+means-shown (reply {end = end} l c e) = rw (code_lines c) (ap Some (lines-shown _ l (rw append_assoc (code_before end l c))))
 means-shown (acceptance {end = end} {between = between} {end' = end'} l e b e') =
     let prompt : List ℕ = ESC ∷ bytes_of "[p" ++ end' in
-    lines-shown _ l (simp append_assoc (lines-before ACK (end ++ (between ++ prompt)) l refl))
+    ap Some (lines-shown _ l (simp append_assoc (lines-before ACK (end ++ (between ++ prompt)) l refl)))
 means-shown (request s c) = refl
 
 -- off the line
@@ -103,29 +98,29 @@ pub shows : (bytes : List ℕ) → Shows bytes (remarks_read bytes)
 shows bytes = go (reply_read bytes) refl
   where
     go : (read : Reply) → reply_read bytes ≡ read → Shows bytes (remarks_read bytes)
-    go (Recognized m) e = let r = recognized bytes m e in rw (recognized-shown r) (Spec.recognized r)
-    go Unrecognized e = rw e (unrecognized (λ m r. let n = recognizes r in absurd (false≢true cc)))
+    go (Some m) e = let r = recognized bytes m e in rw (recognized-shown r) (Spec.recognized r)
+    go None e = rw e (unrecognized (λ m r. let n = recognizes r in absurd (false≢true cc)))
 
 -- and nothing else: the remarks are a function of the reply
-pub shown_only : {bytes : List ℕ} {x : Remarks} → Shows bytes x → x ≡ remarks_read bytes
+pub shown_only : {bytes : List ℕ} {x : Option Remarks} → Shows bytes x → x ≡ remarks_read bytes
 shown_only (Spec.recognized r) = sym (recognized-shown r)
 shown_only {bytes} (unrecognized means) = go (reply_read bytes) refl
   where
-    go : (read : Reply) → reply_read bytes ≡ read → Remark.Nothing ≡ remarks_of read bytes
-    go (Recognized m) e = absurd (means m (recognized bytes m e))
-    go Unrecognized e = refl
+    go : (read : Reply) → reply_read bytes ≡ read → None ≡ remarks_of read bytes
+    go (Some m) e = absurd (means m (recognized bytes m e))
+    go None e = refl
 
 -- ── The last line that begins with `ID` ──
 
 -- lines that do not begin so change nothing
-no_id : (a : IdLine) {lines : List Line} → NoId lines → foldl newer a lines ≡ a
+no_id : (a : Option Span) {lines : List Line} → NoId lines → foldl newer a lines ≡ a
 no_id a empty = refl
 no_id a (other e n) = rw e (no_id a n)
 
 -- nothing but the last is computed
-pub last_only : {lines : List Line} {x : IdLine} → LastId lines x → x ≡ last_id lines
-last_only (last before l {after} e n) = sym (foldl-append newer Id.Nothing before (l ∷ after) ∙ rw e (no_id (Id.At (place_of l)) n))
-last_only (missing n) = sym (no_id Id.Nothing n)
+pub last_only : {lines : List Line} {x : Option Span} → LastId lines x → x ≡ last_id lines
+last_only (last before l {after} e n) = sym (foldl-append newer None before (l ∷ after) ∙ rw e (no_id (Some (place_of l)) n))
+last_only (missing n) = sym (no_id None n)
 
 -- one line more that does not begin so
 no_id_next : {lines : List Line} (l : Line) → is_id l.text ≡ false → NoId lines → NoId (lines ++ l ∷ [])
@@ -133,16 +128,16 @@ no_id_next l e empty = other e empty
 no_id_next l e (other f n) = other f (no_id_next l e n)
 
 -- the last of lines and one line more
-last-next : {lines : List Line} {x : IdLine} (l : Line) → LastId lines x → LastId (lines ++ l ∷ []) (newer x l)
+last-next : {lines : List Line} {x : Option Span} (l : Line) → LastId lines x → LastId (lines ++ l ∷ []) (newer x l)
 last-next l d = go (is_id l.text) refl d
   where
-    go : {lines : List Line} {x : IdLine} (b : Bool) → is_id l.text ≡ b → LastId lines x → LastId (lines ++ l ∷ []) (later_of x (if b then Id.At (place_of l) else Id.Nothing))
+    go : {lines : List Line} {x : Option Span} (b : Bool) → is_id l.text ≡ b → LastId lines x → LastId (lines ++ l ∷ []) (later_of x (if b then Some (place_of l) else None))
     go {lines} true e d = last lines l e empty
     go false e (last before k f n) = rw append_assoc (last before k f (no_id_next l e n))
     go false e (missing n) = missing (no_id_next l e n)
 
 -- and of lines and more
-last-behind : {lines : List Line} {x : IdLine} (more : List Line) → LastId lines x → LastId (lines ++ more) (foldl newer x more)
+last-behind : {lines : List Line} {x : Option Span} (more : List Line) → LastId lines x → LastId (lines ++ more) (foldl newer x more)
 last-behind [] d = rw append-nil d
 last-behind {lines = lines} (l ∷ more) d = rw append_assoc at (last-behind {lines = lines ++ l ∷ []} more (last-next l d))
 
@@ -153,15 +148,15 @@ last_found lines = last-behind lines (missing empty)
 -- ── Within the reply ──
 
 -- a line more: its place lies where the line does
-newer-within : (a : IdLine) (lines : Span) (l : Line) → lines.begin ≤ l.begin → l.begin + length l.text ≤ lines.end → IdWithin lines a → IdWithin lines (newer a l)
+newer-within : (a : Option Span) (lines : Span) (l : Line) → lines.begin ≤ l.begin → l.begin + length l.text ≤ lines.end → IdWithin lines a → IdWithin lines (newer a l)
 newer-within a lines l from to h = go (is_id l.text)
   where
-    go : (b : Bool) → IdWithin lines (later_of a (if b then Id.At (place_of l) else Id.Nothing))
+    go : (b : Bool) → IdWithin lines (later_of a (if b then Some (place_of l) else None))
     go true = (from, omega arith, to)
     go false = h
 
 -- so does that of the last one
-last_within : {text : List ℕ} (a : IdLine) (lines : Span) (begin : ℕ) (l : Lines text) → lines.begin ≤ begin → begin + length text ≤ lines.end → IdWithin lines a →
+last_within : {text : List ℕ} (a : Option Span) (lines : Span) (begin : ℕ) (l : Lines text) → lines.begin ≤ begin → begin + length text ≤ lines.end → IdWithin lines a →
     IdWithin lines (foldl newer a (lines_from begin l))
 last_within a lines begin none from to h = h
 last_within a lines begin (line text {end} {rest} p e l) from to h =
@@ -170,10 +165,10 @@ last_within a lines begin (line text {end} {rest} p e l) from to h =
     last_within (newer a (line_at begin text)) lines (begin + length (text ++ end)) l (omega arith) (omega arith) (newer-within a lines (line_at begin text) from (omega arith) h)
 
 -- lines at the start of a text
-lines-inside : (before rest : List ℕ) (l : Lines before) → Inside (length (before ++ rest)) (as_remarks l)
+lines-inside : (before rest : List ℕ) (l : Lines before) → Inside (length (before ++ rest)) (Some (as_remarks l))
 lines-inside before rest l =
     let fits = length-append before rest in
-    (omega arith, omega arith, last_within Id.Nothing (span 0 (length before)) 0 l (omega arith) (omega arith) tt)
+    (omega arith, omega arith, last_within None (span 0 (length before)) 0 l (omega arith) (omega arith) tt)
 
 -- of every text that means something
 means-inside : {m : Meaning} {text : List ℕ} (d : Means m text) → Inside (length text) (remarks_in d)
@@ -187,29 +182,29 @@ means-inside (request s c) = tt
 pub remarks_inside : (bytes : List ℕ) → Inside (length bytes) (remarks_read bytes)
 remarks_inside bytes = go (shows bytes)
   where
-    go : {x : Remarks} → Shows bytes x → Inside (length bytes) x
+    go : {x : Option Remarks} → Shows bytes x → Inside (length bytes) x
     go (Spec.recognized r) = rw length-map at (means-inside r.means)
     go (unrecognized means) = tt
 
 -- ── Replies as they come ──
 
 -- a text off the line shows this
-abbrev Showing : List ℕ → Remarks → Type 0
+abbrev Showing : List ℕ → Option Remarks → Type 0
 Showing text x = remarks_read (map with_parity text) ≡ x
 
 -- where the lines of some replies stand
 pub record SomeShown : Type 0 where
   -- document 02's line, before NAK
-  pub one_line : Showing (bytes_of "ID123 not known" ++ CR ∷ NAK ∷ CR ∷ []) (Remark.At (span 0 16) (Id.At (span 0 15)))
+  pub one_line : Showing (bytes_of "ID123 not known" ++ CR ∷ NAK ∷ CR ∷ []) (Some (remarks (span 0 16) (Some (span 0 15))))
   -- of two such lines the last, whatever ends them
-  pub last_line : Showing (bytes_of "ID1" ++ CR ∷ LF ∷ bytes_of "ID" ++ CR ∷ bytes_of "OK" ++ CR ∷ RS ∷ CR ∷ []) (Remark.At (span 0 11) (Id.At (span 5 7)))
+  pub last_line : Showing (bytes_of "ID1" ++ CR ∷ LF ∷ bytes_of "ID" ++ CR ∷ bytes_of "OK" ++ CR ∷ RS ∷ CR ∷ []) (Some (remarks (span 0 11) (Some (span 5 7))))
   -- `ID` in the middle of a line is none
-  pub middle : Showing (bytes_of "no ID1" ++ CR ∷ ACK ∷ CR ∷ []) (Remark.At (span 0 7) Id.Nothing)
+  pub middle : Showing (bytes_of "no ID1" ++ CR ∷ ACK ∷ CR ∷ []) (Some (remarks (span 0 7) None))
   -- in an acceptance, no line behind the ACK
-  pub behind-ack : Showing (CR ∷ ACK ∷ CR ∷ bytes_of "ID1" ++ CR ∷ ESC ∷ bytes_of "[p" ++ CR ∷ []) (Remark.At (span 0 1) Id.Nothing)
+  pub behind-ack : Showing (CR ∷ ACK ∷ CR ∷ bytes_of "ID1" ++ CR ∷ ESC ∷ bytes_of "[p" ++ CR ∷ []) (Some (remarks (span 0 1) None))
   -- no lines are not no places
-  pub no_lines : Showing (ESC ∷ EOT ∷ CR ∷ []) (Remark.At (span 0 0) Id.Nothing)
-  pub no_places : Showing (bytes_of "ID=" ++ CR ∷ []) Remark.Nothing
+  pub no_lines : Showing (ESC ∷ EOT ∷ CR ∷ []) (Some (remarks (span 0 0) None))
+  pub no_places : Showing (bytes_of "ID=" ++ CR ∷ []) None
 
 -- by computation
 pub some-shown : SomeShown

@@ -13,9 +13,10 @@ use Rattle.line.specs.Character.{CR, printable}
 use Rattle.line.specs.Parity.{seven_bits}
 use Rattle.line.specs.Test.{same}
 use Rattle.reply.specs.Inner.{character_at, between, found, Passes, shown, to_show}
-use Rattle.reply.specs.Remarks.{span, line_at, is_id, newer, of_line, before_code, lines_in, lines_shown}
-use Rattle.reply.specs.declared.remarks.IdLine.TheVariants.{Nothing}
-use Rattle.reply.specs.declared.remarks.Remarks.TheVariants.{At}
+use Rattle.reply.specs.Remarks.{span, remarks, line_at, is_id, later_of, newer, of_line, before_code, lines_in, lines_shown}
+use Rattle.std.specs.Prelude.{Option, Some, None}
+use Rattle.std.specs.Option.{option_or}
+use Rattle.reply.specs.declared.remarks.Span.{Span}
 use Rattle.reply.specs.declared.remarks.Search.{Search}
 
 -- two characters or more begin with `ID` where the first two are these
@@ -75,19 +76,24 @@ module _ (s : Search) (bytes : List ℕ) (i : ℕ) (from : s.begin ≤ i) (here 
   unfolding lines_in
   found-other p e = rw (p, e, next-begins, between_none)
 
+-- the later of two is the one before only where there is no other
+pub later_or : (before line : Option Span) → option_or line before ≡ later_of before line
+later_or before (Some s) = refl
+later_or before None = refl
+
 -- ── All of it ──
 
 -- at the start all is still to show
-pub shows-all : (bytes : List ℕ) → lines_shown (map seven_bits bytes) ≡ to_show (record { begin = 0; last = Nothing }) bytes 0
+pub shows-all : (bytes : List ℕ) → lines_shown (map seven_bits bytes) ≡ to_show (record { begin = 0; last = None }) bytes 0
 unfolding lines_shown
 shows-all bytes = rw zero-add
 
 -- a search that has come to i
 module _ (s : Search) (bytes : List ℕ) (i : ℕ) where
   -- at the end of the bytes nothing is left
-  pub shows-end : length bytes ≤ i → to_show s bytes i ≡ shown s i
+  pub shows-end : i ≤ length bytes → length bytes ≤ i → to_show s bytes i ≡ shown s (length bytes)
   unfolding before_code lines_in
-  shows-end h = rw (drop_of_length-le bytes h, add-zero)
+  shows-end h k = let e : i ≡ length bytes = omega arith in rw (drop_of_length-le bytes k, add-zero, e)
 
   -- nor at a character that no line has
   pub shows_code : i < length bytes → of_line (character_at bytes i) ≡ false → to_show s bytes i ≡ shown s i
@@ -102,7 +108,7 @@ module _ (s : Search) (bytes : List ℕ) (i : ℕ) where
       let rest = before_code (map seven_bits (drop (i + 1) bytes)) in
       let whole : before_code (map seven_bits (drop i bytes)) ≡ c ∷ rest = rw (add-one, drop-cons bytes i 0 h, e) in
       let count : i + length (c ∷ rest) ≡ i + 1 + length rest = omega arith in
-      rw whole (λ k. At (span 0 (count k)) (sym (passed.finds rest) k))
+      rw whole (λ k. remarks (span 0 (count k)) (sym (passed.finds rest) k))
 
   -- and past a character of a line it is the same search
   pub shows_character : s.begin ≤ i → i < length bytes → printable (character_at bytes i) ≡ true → to_show s bytes i ≡ to_show s bytes (i + 1)

@@ -12,7 +12,7 @@ use Rattle.line.proofs.SameLaws.{same_equal}
 use Rattle.reply.specs.Grammar.{LineEnd, cr, crlf, Code, ack, nak, rs, eot, Space, none, one, Close, nothing, ended}
 use Rattle.reply.specs.Reading.{rest_after, after_lines, ends, begins, closes, finishes, requests, accepts, code_read}
 use Rattle.reply.specs.declared.Meaning.{Meaning}
-use Rattle.reply.specs.declared.Reply.TheVariants.{Recognized, Unrecognized}
+use Rattle.std.specs.Prelude.{Some, None}
 use Rattle.reply.proofs.LinesLaws.{no_line}
 
 -- one of two tests passes
@@ -53,7 +53,7 @@ requests-split text h =
         (bytes_of " ", drop 4 text, one, finishes_close _ f, cc (whole, begins-split (bytes_of " ") (drop 3 text) space, drop-drop 1 3 text))
 
 -- a code and the end of a line are recognized
-pub code_read_lem : {m : Meaning} {code end : List ℕ} → Code m code → LineEnd end → code_read (code ++ end) ≡ Recognized m
+pub code_read_lem : {m : Meaning} {code end : List ℕ} → Code m code → LineEnd end → code_read (code ++ end) ≡ Some m
 unfolding code_read same
 code_read_lem ack cr = refl
 code_read_lem ack crlf = refl
@@ -73,7 +73,7 @@ code_no_line rest eot = no_line ESC (EOT ∷ rest) refl refl refl
 
 -- an ID request passes its test, and no code follows its lines
 pub request-read : {space close : List ℕ} → Space space → Close close →
-    let text : List ℕ = bytes_of "ID=" ++ space ++ close in (requests text ≡ true) × (code_read (after_lines text) ≡ Unrecognized)
+    let text : List ℕ = bytes_of "ID=" ++ space ++ close in (requests text ≡ true) × (code_read (after_lines text) ≡ None)
 unfolding requests code_read accepts same rest_after
 request-read none nothing = (refl, refl)
 request-read none (ended cr) = (refl, refl)

@@ -1,25 +1,23 @@
 -- Laws of the reader's tests at a place of a text: what begins there, what ends there, and where the whole lines end.
-use Rattle.std.specs.Prelude.{if◌then◌else◌}
-use mathlib.Core.Bool.{Bool, true, false, ◌&&◌, ◌||◌, false≢true}
+use Rattle.std.specs.Prelude.{Option, Some, None, if◌then◌else◌}
+use Rattle.std.specs.Option.{MatchOption, unwrap_or}
+use Rattle.std.specs.List.{starts_with}
+use denote.Ref.{Bor}
+use lib.Pointwise.{pointwise}
+use mathlib.Core.Bool.{Bool, true, false, ◌&&◌, ◌||◌, false≢true, and-true, or-false}
 use mathlib.Core.List.{List, [], ◌∷◌}
 use mathlib.Core.Path.{◌≡◌, refl, sym, ap, ◌∙◌}
-use Prim.Native.Nat.{ℕ, suc, ◌+◌, ◌≤◌, ◌<◌}
+use Prim.Native.Nat.{ℕ, suc, ◌+◌, ◌-◌, ◌≤◌, ◌<◌}
 use native.Mathlib.Numerals.{add-one}
 use native.Mathlib.Omega.{arith}
-use borrow.Author.Tests.{eq-eqb, ne_eqb, eqb-true}
-use lib.Dec.{eqb}
-use lib.ListN.{length, get_or, take, drop, length-take, drop_of_length-le}
-use lib.Seq.{drop-cons}
+use borrow.Author.Tests.{eqb-true}
+use lib.Dec.{eqb, eqb-suc-zero}
+use lib.ListN.{length, get_or, take, drop, length-take, length-drop}
+use lib.Seq.{drop-cons, take_all}
 use Rattle.line.specs.Character.{CR, LF, printable}
 use Rattle.line.specs.Test.{same}
-use Rattle.line.proofs.SameLaws.{same_equal}
-use Rattle.reply.specs.Reading.{begins, ends, rest_after}
-
--- behind a CR, nothing or a LF alone ends the text
-pub ends-behind : (text : List ℕ) (at : ℕ) → at < length text → get_or text at 0 ≡ CR →
-    ends (drop at text) ≡ (same (drop (at + 1) text) [] || same (drop (at + 1) text) (LF ∷ []))
-unfolding same
-ends-behind text at h e = rw (add-one, drop-cons text at 0 h, eq-eqb _ CR e)
+use Rattle.line.proofs.SameLaws.{eqb_turned, same_equal, same-pointwise}
+use Rattle.reply.specs.Reading.{begins, finishes, rest_after}
 
 -- what begins a text is no longer than it
 pub begins-fits : (start text : List ℕ) → begins start text ≡ true → length start ≤ length text
@@ -33,25 +31,44 @@ begins-short start text h = go (begins start text) refl
     go true e = absurd (omega (arith, begins-fits start text e))
     go false e = refl
 
--- a loop that has met the first i members of the start: the rest decides
-module _ (start text : List ℕ) (at i : ℕ) (rest : begins start (drop at text) ≡ begins (drop i start) (drop (at + i) text)) where
-  -- the next one is met too
-  pub begins-next : get_or text (at + i) 0 ≡ get_or start i 0 → i < length start → at + i < length text →
-      begins start (drop at text) ≡ begins (drop (i + 1) start) (drop (at + (i + 1)) text)
-  unfolding same
-  begins-next e h k =
-      let step : at + (i + 1) ≡ suc (at + i) = omega arith in
-      rest ∙ rw (step, add-one, drop-cons start i 0 h, drop-cons text (at + i) 0 k, eq-eqb _ _ e)
+-- `strip_prefix` and `starts_with` test so
+pub stripped-begins : (start text : List ℕ) → pointwise eqb (take (length start) text) start ≡ begins start text
+stripped-begins start text = same-pointwise (take (length start) text) start
 
-  -- the next one is not met
-  pub begins-other : (get_or text (at + i) 0 ≡ get_or start i 0 → ⊥) → i < length start → at + i < length text → false ≡ begins start (drop at text)
-  unfolding same
-  begins-other e h k = sym (rest ∙ rw (drop-cons start i 0 h, drop-cons text (at + i) 0 k, ne_eqb _ _ e))
+same_turned : (xs ys : List ℕ) → pointwise eqb xs ys ≡ same ys xs
+unfolding same
+same_turned [] [] = refl
+same_turned [] (y ∷ ys) = refl
+same_turned (x ∷ xs) [] = refl
+same_turned (x ∷ xs) (y ∷ ys) = rw (eqb_turned x y, same_turned xs ys)
 
-  -- all are met
-  pub begins-ended : length start ≤ i → true ≡ begins start (drop at text)
-  unfolding same
-  begins-ended h = sym (rest ∙ rw (drop_of_length-le start h))
+pub starts-begins : (start text : List ℕ) → starts_with eqb text start ≡ begins start text
+starts-begins start text = same_turned start (take (length start) text)
+
+-- a slice from a place on is what stands there
+pub rest_of : (text : List ℕ) (n : ℕ) → take (length text - n) (drop n text) ≡ drop n text
+rest_of text n = take_all (length text - n) (drop n text) (omega (arith, length-drop n text))
+
+-- nothing is left of an empty text
+pub empty-same : (text : List ℕ) → same text [] ≡ eqb (length text) 0
+unfolding same
+empty-same [] = refl
+empty-same (c ∷ text) = sym (eqb-suc-zero (length text))
+
+-- a space finishes nothing
+space_on : (text : List ℕ) → begins (0x20 ∷ []) text ≡ true → finishes text ≡ false
+unfolding same
+space_on [] h = absurd (false≢true h)
+space_on (c ∷ text) h = let e = eqb-true c 0x20 (simp and-true at h) in rw e
+
+-- a space at the start may be taken off: what is left decides
+pub space-passed : (rest : Bor (List ℕ)) (r : Option (Bor (List ℕ))) →
+    MatchOption r (pointwise eqb (take 1 rest.now) (0x20 ∷ []) ≡ false) (λ x. (pointwise eqb (take 1 rest.now) (0x20 ∷ []) ≡ true) × (x.now ≡ drop 1 rest.now) × (length x.now + 1 ≡ length rest.now)) →
+    finishes (unwrap_or r rest).now ≡ (finishes rest.now || begins (0x20 ∷ []) rest.now && finishes (drop 1 rest.now))
+space-passed rest None m = let no = sym (stripped-begins (0x20 ∷ []) rest.now) ∙ m in rw (no, or-false)
+space-passed rest (Some x) m =
+    let yes = sym (stripped-begins (0x20 ∷ []) rest.now) ∙ m.0 in
+    rw (yes, space_on rest.now yes, m.1)
 
 -- a choice by two tests, whose ways differ by the first alone, where one of them holds
 taken : {A : Type 0} (f : Bool → A) (x : A) (a b : Bool) → (a || b) ≡ true → (if a then f true else if b then f false else x) ≡ f a

@@ -1,13 +1,16 @@
 -- What the reader answers, as a computation. `proofs/GrammarLaws` shows that it is the grammar.
-use Rattle.std.specs.Prelude.{Bool, true, false, ◌&&◌, ◌||◌, List, [], ◌∷◌, ℕ, eqb, length, take, drop, if◌then◌else◌}
+use Rattle.std.specs.Prelude.{Bool, true, false, ◌&&◌, ◌||◌, List, [], ◌∷◌, ℕ, Option, Some, None, eqb, length, take, drop, if◌then◌else◌}
 use Rattle.line.specs.Answer.{Outcome, done, refused}
 use Rattle.line.specs.Character.{ACK, CR, EOT, ESC, LF, NAK, RS, printable}
 use Rattle.line.specs.Parity.{parity_off}
 use Rattle.line.specs.Test.{same}
 use Rattle.line.specs.Text.{bytes_of}
+use Rattle.reply.specs.declared.Meaning.{Meaning}
 use Rattle.reply.specs.declared.Meaning.TheVariants.{IdRequest, Acceptance, Ack, Nak, Rs, Eot}
-use Rattle.reply.specs.declared.Reply.{Reply}
-use Rattle.reply.specs.declared.Reply.TheVariants.{Recognized, Unrecognized}
+
+-- what was read: a meaning, or nothing recognized
+abbrev pub Reply : Type 0
+Reply = Option Meaning
 
 -- what follows the whole lines at the start of a text. `rest` follows those met so far; `ended`: the last character was
 -- their CR, which a LF may follow
@@ -50,21 +53,21 @@ accepts text = begins (ACK ∷ CR ∷ []) text && closes (ESC ∷ bytes_of "[p")
 -- what follows the lines: one code, or the rest of a logon acceptance
 unfoldable pub code_read : List ℕ → Reply
 code_read text =
-    if closes (ACK ∷ []) text then Recognized Ack
-    else if closes (NAK ∷ []) text then Recognized Nak
-    else if closes (RS ∷ []) text then Recognized Rs
-    else if closes (ESC ∷ EOT ∷ []) text then Recognized Eot
-    else if accepts text then Recognized Acceptance
-    else Unrecognized
+    if closes (ACK ∷ []) text then Some Ack
+    else if closes (NAK ∷ []) text then Some Nak
+    else if closes (RS ∷ []) text then Some Rs
+    else if closes (ESC ∷ EOT ∷ []) text then Some Eot
+    else if accepts text then Some Acceptance
+    else None
 
 -- a text without parity
 unfoldable pub text_read : List ℕ → Reply
-text_read text = if requests text then Recognized IdRequest else code_read (after_lines text)
+text_read text = if requests text then Some IdRequest else code_read (after_lines text)
 
 -- what is recognized where a text could be taken off the line
 abbrev pub recognized_in : Outcome (List ℕ) → Reply
 recognized_in (done text) = text_read text
-recognized_in (refused n) = Unrecognized
+recognized_in (refused n) = None
 
 -- bytes off the line: over 256 of them, or one of odd parity, are not recognized (R-5.6)
 unfoldable pub reply_read : List ℕ → Reply

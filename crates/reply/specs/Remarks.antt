@@ -1,25 +1,24 @@
 -- Where the lines before the code stand in a reply, and the last of them that begins with `ID` (document 02, wish 5): read off
 -- the grammar's derivation, and as a computation. `proofs/RemarksLaws` shows that they are the same.
-use Rattle.std.specs.Prelude.{Bool, true, false, ◌||◌, ◌≡◌, ℕ, ◌+◌, ◌≤◌, eqb, length, if◌then◌else◌}
+use Rattle.std.specs.Prelude.{Bool, true, false, ◌||◌, ◌≡◌, ℕ, ◌+◌, ◌≤◌, Option, Some, None, eqb, length, if◌then◌else◌}
 use mathlib.Core.List.{List, [], ◌∷◌, ◌++◌, foldl, map}
 use Rattle.line.specs.Character.{CR, LF, printable}
 use Rattle.line.specs.Parity.{seven_bits}
 use Rattle.line.specs.Text.{bytes_of}
 use Rattle.reply.specs.Grammar.{Lines, none, line, Means, reply, acceptance, request, Recognizes}
-use Rattle.reply.specs.Reading.{begins, reply_read}
+use Rattle.reply.specs.Reading.{Reply, begins, reply_read}
 use Rattle.reply.specs.declared.Meaning.{Meaning}
 use Rattle.reply.specs.declared.Meaning.TheVariants.{IdRequest, Acceptance, Ack, Nak, Rs, Eot}
-use Rattle.reply.specs.declared.Reply.{Reply}
-use Rattle.reply.specs.declared.Reply.TheVariants.{Recognized, Unrecognized}
-use Rattle.reply.specs.declared.remarks.IdLine.{IdLine}
-use Rattle.reply.specs.declared.remarks.IdLine.TheVariants as Id
 use Rattle.reply.specs.declared.remarks.Remarks.{Remarks}
-use Rattle.reply.specs.declared.remarks.Remarks.TheVariants as Remark
 use Rattle.reply.specs.declared.remarks.Span.{Span}
 
 -- a part of a reply, up to its end
 abbrev pub span : ℕ → ℕ → Span
 span begin end = record { begin = begin; end = end }
+
+-- lines that stand there, and the ID line among them
+abbrev pub remarks : Span → Option Span → Remarks
+remarks lines id = record { lines = lines; id_line = id }
 
 -- a line: where it begins, and its text, its ending left out
 pub record Line : Type 0 where
@@ -46,27 +45,27 @@ pub data NoId : List Line → Type 0 where
   other : {l : Line} {lines : List Line} → is_id l.text ≡ false → NoId lines → NoId (l ∷ lines)
 
 -- the last of these lines that begins so: one behind which none does, or there is none (R-5.9)
-pub data LastId : List Line → IdLine → Type 0 where
+pub data LastId : List Line → Option Span → Type 0 where
   last : (before : List Line) (l : Line) {after : List Line} → is_id l.text ≡ true → NoId after →
-      LastId (before ++ l ∷ after) (Id.At (place_of l))
-  missing : {lines : List Line} → NoId lines → LastId lines Id.Nothing
+      LastId (before ++ l ∷ after) (Some (place_of l))
+  missing : {lines : List Line} → NoId lines → LastId lines None
 
 -- where a line stands, if it begins so
-abbrev pub id_at : Line → IdLine
-id_at l = if is_id l.text then Id.At (place_of l) else Id.Nothing
+abbrev pub id_at : Line → Option Span
+id_at l = if is_id l.text then Some (place_of l) else None
 
 -- the later of two, where there is one
-abbrev pub later_of : IdLine → IdLine → IdLine
-later_of before (Id.At s) = Id.At s
-later_of before Id.Nothing = before
+abbrev pub later_of : Option Span → Option Span → Option Span
+later_of before (Some s) = Some s
+later_of before None = before
 
 -- one line more
-abbrev pub newer : IdLine → Line → IdLine
+abbrev pub newer : Option Span → Line → Option Span
 newer before l = later_of before (id_at l)
 
 -- the last of these lines, as a computation: `LastId` (R-5.9)
-abbrev pub last_id : List Line → IdLine
-last_id lines = foldl newer Id.Nothing lines
+abbrev pub last_id : List Line → Option Span
+last_id lines = foldl newer None lines
 
 -- ── Off the derivation ──
 
@@ -77,28 +76,28 @@ lines_from begin (line text {end} h e more) = line_at begin text ∷ lines_from 
 
 -- lines that a reply begins with: where they stand, and the ID line among them (R-5.8, R-5.9)
 abbrev pub as_remarks : {text : List ℕ} → Lines text → Remarks
-as_remarks {text} lines = Remark.At (span 0 (length text)) (last_id (lines_from 0 lines))
+as_remarks {text} lines = remarks (span 0 (length text)) (last_id (lines_from 0 lines))
 
 -- the remarks in a text: the lines before the code, in an acceptance before its ACK; an ID request has none (R-5.8)
-abbrev pub remarks_in : {m : Meaning} {text : List ℕ} → Means m text → Remarks
-remarks_in (reply before c e) = as_remarks before
-remarks_in (acceptance before e between e') = as_remarks before
-remarks_in (request s c) = Remark.Nothing
+abbrev pub remarks_in : {m : Meaning} {text : List ℕ} → Means m text → Option Remarks
+remarks_in (reply before c e) = Some (as_remarks before)
+remarks_in (acceptance before e between e') = Some (as_remarks before)
+remarks_in (request s c) = None
 
 -- what bytes off the line show: the remarks in what they mean, and none where they mean nothing (R-5.8)
-pub data Shows (bytes : List ℕ) : Remarks → Type 0 where
+pub data Shows (bytes : List ℕ) : Option Remarks → Type 0 where
   recognized : {m : Meaning} (r : Recognizes m bytes) → Shows bytes (remarks_in r.means)
-  unrecognized : ((m : Meaning) → Recognizes m bytes → ⊥) → Shows bytes Remark.Nothing
+  unrecognized : ((m : Meaning) → Recognizes m bytes → ⊥) → Shows bytes None
 
 -- the ID line lies within the lines (R-5.10)
-abbrev pub IdWithin : Span → IdLine → Type 0
-IdWithin lines (Id.At id) = (lines.begin ≤ id.begin) × (id.begin ≤ id.end) × (id.end ≤ lines.end)
-IdWithin lines Id.Nothing = Unit {0}
+abbrev pub IdWithin : Span → Option Span → Type 0
+IdWithin lines (Some id) = (lines.begin ≤ id.begin) × (id.begin ≤ id.end) × (id.end ≤ lines.end)
+IdWithin lines None = Unit {0}
 
 -- and the lines within a reply of so many bytes (R-5.10)
-abbrev pub Inside : ℕ → Remarks → Type 0
-Inside n (Remark.At lines id) = (lines.begin ≤ lines.end) × (lines.end ≤ n) × IdWithin lines id
-Inside n Remark.Nothing = Unit {0}
+abbrev pub Inside : ℕ → Option Remarks → Type 0
+Inside n (Some r) = (r.lines.begin ≤ r.lines.end) × (r.lines.end ≤ n) × IdWithin r.lines r.id_line
+Inside n None = Unit {0}
 
 -- ── As a computation ──
 
@@ -125,7 +124,7 @@ lines_in begin text (c ∷ rest) =
 
 -- where they stand, and the ID line among them
 unfoldable pub lines_shown : List ℕ → Remarks
-lines_shown text = Remark.At (span 0 (length (before_code text))) (last_id (lines_in 0 [] (before_code text)))
+lines_shown text = remarks (span 0 (length (before_code text))) (last_id (lines_in 0 [] (before_code text)))
 
 -- a reply of this meaning has lines before a code: all but an ID request
 abbrev pub has_lines : Meaning → Bool
@@ -137,10 +136,10 @@ has_lines Rs = true
 has_lines Eot = true
 
 -- the remarks in bytes that were read so
-abbrev pub remarks_of : Reply → List ℕ → Remarks
-remarks_of (Recognized m) bytes = if has_lines m then lines_shown (map seven_bits bytes) else Remark.Nothing
-remarks_of Unrecognized bytes = Remark.Nothing
+abbrev pub remarks_of : Reply → List ℕ → Option Remarks
+remarks_of (Some m) bytes = if has_lines m then Some (lines_shown (map seven_bits bytes)) else None
+remarks_of None bytes = None
 
 -- the remarks in bytes off the line (R-5.8)
-abbrev pub remarks_read : List ℕ → Remarks
+abbrev pub remarks_read : List ℕ → Option Remarks
 remarks_read bytes = remarks_of (reply_read bytes) bytes

@@ -6,15 +6,15 @@ pub mod remarks;
 
 ghost use Rattle.std.specs.Prelude.{◌&&◌, ◌||◌, ◌≡◌, ◌≤◌, eqb, length, drop};
 ghost use Rattle.line.specs.Character.{CR, LF};
-ghost use Rattle.reply.specs.Reading.{reply_read, text_read, code_read, accepts, requests, after_lines, closes, begins, finishes, ends};
+ghost use Rattle.reply.specs.Reading.{reply_read, text_read, code_read, accepts, requests, after_lines, closes, finishes, ends};
 
-use line::Written;
 use line::character::{ACK, CR, Class, EOT, ESC, LF, NAK, RS, is};
+use line::memory::is_same;
 use line::parity::clear_parity;
-pub use remarks::{IdLine, Remarks, Span};
+pub use remarks::{Remarks, Span};
 
 // What a reply means.
-#[derive(Clone, Copy)]
+#[derive(Clone, Copy, Debug, PartialEq, Eq)]
 pub enum Meaning {
     // `ID=`: the central asks who calls.
     IdRequest,
@@ -27,12 +27,8 @@ pub enum Meaning {
     Eot,
 }
 
-// What was read, to be taken apart by `let .. else`.
-#[derive(Clone, Copy)]
-pub enum Reply {
-    Recognized(Meaning),
-    Unrecognized,
-}
+// What was read, to be taken apart by `let .. else`: `None` is unrecognized.
+pub type Reply = Option<Meaning>;
 
 // The longest reply.
 pub const MOST_REPLY: usize = 256;
@@ -42,85 +38,74 @@ pub fn read(bytes: &[u8]) -> Reply
     ensures { result ≡ reply_read bytes.now }
 {
     let mut text = [0u8; MOST_REPLY];
-    let Written::Count(n) = clear_parity(bytes, &mut text) else {
-        return Reply::Unrecognized;
+    let Ok(n) = clear_parity(bytes, &mut text) else {
+        return None;
     };
     read_text(&text[..n])
 }
 
 // The meaning of a text, its parity taken off.
+#[tactic(auto, unfolding(crate::specs::Reading::text_read))]
 fn read_text(text: &[u8]) -> Reply
     ensures { result ≡ text_read text.now }
 {
     if requests(text) {
-        return Reply::Recognized(Meaning::IdRequest);
+        return Some(Meaning::IdRequest);
     }
-    let end = lines_end(text, 0);
-    code_at(text, end)
+    read_code(&text[lines_end(text)..])
 }
 
 // The meaning of what follows the lines.
-fn code_at(text: &[u8], at: usize) -> Reply
-    requires { at ≤ length text.now }
-    ensures { result ≡ code_read (drop at text.now) }
+#[tactic(auto, unfolding(crate::specs::Reading::code_read))]
+fn read_code(text: &[u8]) -> Reply
+    ensures { result ≡ code_read text.now }
 {
-    if closes_at(text, at, &[ACK]) {
-        return Reply::Recognized(Meaning::Ack);
+    if closes(text, &[ACK]) {
+        return Some(Meaning::Ack);
     }
-    if closes_at(text, at, &[NAK]) {
-        return Reply::Recognized(Meaning::Nak);
+    if closes(text, &[NAK]) {
+        return Some(Meaning::Nak);
     }
-    if closes_at(text, at, &[RS]) {
-        return Reply::Recognized(Meaning::Rs);
+    if closes(text, &[RS]) {
+        return Some(Meaning::Rs);
     }
-    if closes_at(text, at, &[ESC, EOT]) {
-        return Reply::Recognized(Meaning::Eot);
+    if closes(text, &[ESC, EOT]) {
+        return Some(Meaning::Eot);
     }
-    if accepts_at(text, at) {
-        return Reply::Recognized(Meaning::Acceptance);
+    if accepts(text) {
+        return Some(Meaning::Acceptance);
     }
-    Reply::Unrecognized
+    None
 }
 
-// The rest of a logon acceptance follows: ACK and its CR or CR LF, lines, then ESC `[p` and CR or
-// CR LF.
-fn accepts_at(text: &[u8], at: usize) -> bool
-    requires { at ≤ length text.now }
-    ensures { result ≡ accepts (drop at text.now) }
+// The rest of a logon acceptance: ACK and its CR or CR LF, lines, then ESC `[p` and CR or CR LF.
+fn accepts(text: &[u8]) -> bool
+    ensures { result ≡ accepts text.now }
 {
-    if !begins_at(text, at, &[ACK, CR]) {
+    if !text.starts_with(&[ACK, CR]) {
         return false;
     }
-    let end = lines_end(text, at + 1);
-    closes_at(text, end, &[ESC, b'[', b'p'])
+    let lines = &text[1..];
+    closes(&lines[lines_end(lines)..], &[ESC, b'[', b'p'])
 }
 
 // The text is an ID request.
 fn requests(text: &[u8]) -> bool
     ensures { result ≡ requests text.now }
 {
-    if !begins_at(text, 0, b"ID=") {
+    let Some(rest) = text.strip_prefix(b"ID=") else {
         return false;
-    }
-    if finishes_at(text, 3) {
-        return true;
-    }
-    if !begins_at(text, 3, b" ") {
-        return false;
-    }
-    finishes_at(text, 4)
+    };
+    finishes(rest.strip_prefix(b" ").unwrap_or(rest))
 }
 
-// Where the whole lines that begin at a place end.
-fn lines_end(text: &[u8], from: usize) -> usize
-    requires { from ≤ length text.now }
-    ensures { (result ≤ length text.now) × (drop result text.now ≡ after_lines (drop from text.now)) }
+// Where the whole lines end that the text begins with.
+fn lines_end(text: &[u8]) -> usize
+    ensures { (result ≤ length text.now) × (drop result text.now ≡ after_lines text.now) }
 {
-    let mut rest = from;
+    let mut rest = 0;
     let mut ended = false;
-    let mut i = from;
-    while i < text.len() {
-        let c = text[i];
+    for (i, &c) in text.iter().enumerate() {
         if !is(c, Class::Printable) {
             if !ends_line(c, ended) {
                 return rest;
@@ -128,7 +113,6 @@ fn lines_end(text: &[u8], from: usize) -> usize
             rest = i + 1;
         }
         ended = c == CR;
-        i += 1;
     }
     rest
 }
@@ -137,71 +121,29 @@ fn lines_end(text: &[u8], from: usize) -> usize
 fn ends_line(c: u8, ended: bool) -> bool
     ensures { result ≡ (eqb c CR || ended && eqb c LF) }
 {
-    if c == CR {
-        return true;
-    }
-    if !ended {
-        return false;
-    }
-    c == LF
+    c == CR || ended && c == LF
 }
 
-// The code follows, then CR or CR LF, and nothing more.
-fn closes_at(text: &[u8], at: usize, code: &[u8]) -> bool
-    requires { at ≤ length text.now }
-    ensures { result ≡ closes code.now (drop at text.now) }
+// The code, then CR or CR LF, and nothing more.
+fn closes(text: &[u8], code: &[u8]) -> bool
+    ensures { result ≡ closes code.now text.now }
 {
-    if !begins_at(text, at, code) {
+    let Some(rest) = text.strip_prefix(code) else {
         return false;
-    }
-    ends_at(text, at + code.len())
+    };
+    ends(rest)
 }
 
-// These bytes follow.
-fn begins_at(text: &[u8], at: usize, start: &[u8]) -> bool
-    requires { at ≤ length text.now }
-    ensures { result ≡ begins start.now (drop at text.now) }
+// Nothing, or CR or CR LF and nothing more.
+fn finishes(text: &[u8]) -> bool
+    ensures { result ≡ finishes text.now }
 {
-    if text.len() - at < start.len() {
-        return false;
-    }
-    let mut i = 0;
-    while i < start.len() {
-        if text[at + i] != start[i] {
-            return false;
-        }
-        i += 1;
-    }
-    true
+    text.is_empty() || ends(text)
 }
 
-// Nothing follows, or CR or CR LF and nothing more.
-fn finishes_at(text: &[u8], at: usize) -> bool
-    ensures { result ≡ finishes (drop at text.now) }
+// CR or CR LF, and nothing more.
+fn ends(text: &[u8]) -> bool
+    ensures { result ≡ ends text.now }
 {
-    if text.len() <= at {
-        return true;
-    }
-    ends_at(text, at)
-}
-
-// CR or CR LF follows, and nothing more.
-fn ends_at(text: &[u8], at: usize) -> bool
-    ensures { result ≡ ends (drop at text.now) }
-{
-    let n = text.len();
-    if n <= at {
-        return false;
-    }
-    if text[at] != CR {
-        return false;
-    }
-    let next = at + 1;
-    if n <= next {
-        return true;
-    }
-    if text[next] != LF {
-        return false;
-    }
-    n <= next + 1
+    is_same(text, &[CR]) || is_same(text, &[CR, LF])
 }

@@ -17,61 +17,41 @@ pub struct Span {
     pub end: usize,
 }
 
-// The last line that begins with `ID`, its ending left out.
-#[derive(Clone, Copy)]
-pub enum IdLine {
-    At(Span),
-    Nothing,
-}
-
 // What the central wrote before the code (TAP's message sequence, document 02's places).
 #[derive(Clone, Copy)]
-pub enum Remarks {
+pub struct Remarks {
     // The lines, their endings included: where there are none, the empty span at 0.
-    At(Span, IdLine),
-    // An ID request, or nothing recognized.
-    Nothing,
+    pub lines: Span,
+    // The last line that begins with `ID`, its ending left out.
+    pub id_line: Option<Span>,
 }
 
-// The remarks in the bytes as they came off the line, with parity.
-pub fn read_remarks(bytes: &[u8]) -> Remarks
+// The remarks in the bytes as they came off the line, with parity: none of an ID request, or where
+// nothing is recognized.
+pub fn read_remarks(bytes: &[u8]) -> Option<Remarks>
     ensures { result ≡ Spec.remarks_read bytes.now }
 {
     remarks_of(read(bytes), bytes)
 }
 
 // The same for a caller that has read them already.
-pub fn remarks_of(reply: Reply, bytes: &[u8]) -> Remarks
+pub fn remarks_of(reply: Reply, bytes: &[u8]) -> Option<Remarks>
     ensures { result ≡ Spec.remarks_of reply bytes.now }
 {
-    let Reply::Recognized(meaning) = reply else {
-        return Remarks::Nothing;
+    let Some(meaning) = reply else {
+        return None;
     };
-    if has_lines(meaning) {
-        return find_lines(bytes);
+    if meaning != Meaning::IdRequest {
+        return Some(find_lines(bytes));
     }
-    Remarks::Nothing
-}
-
-// A reply of this meaning has lines before a code: all but an ID request.
-fn has_lines(meaning: Meaning) -> bool
-    ensures { result ≡ Spec.has_lines meaning }
-{
-    match meaning {
-        Meaning::IdRequest => false,
-        Meaning::Acceptance => true,
-        Meaning::Ack => true,
-        Meaning::Nak => true,
-        Meaning::Rs => true,
-        Meaning::Eot => true,
-    }
+    None
 }
 
 // A search for the ID line: where the line at hand begins, and what was found before it.
 #[derive(Clone, Copy)]
 pub(crate) struct Search {
     pub begin: usize,
-    pub last: IdLine,
+    pub last: Option<Span>,
 }
 
 // The lines up to the first character that no line has.
@@ -80,28 +60,18 @@ fn find_lines(bytes: &[u8]) -> Remarks
 {
     let mut search = Search {
         begin: 0,
-        last: IdLine::Nothing,
+        last: None,
     };
-    let mut i = 0;
-    while i < bytes.len() {
-        let c = bytes[i] % 0x80;
+    for (i, b) in bytes.iter().enumerate() {
+        let c = b % 0x80;
         if !is(c, Class::Printable) {
             if !is_of_ending(c) {
-                return shown(search, i);
+                return search.shown(i);
             }
-            search = pass(search, bytes, i);
+            search = search.pass(bytes, i);
         }
-        i += 1;
     }
-    shown(search, i)
-}
-
-// What a search shows where the lines end.
-fn shown(search: Search, end: usize) -> Remarks
-    ensures { result ≡ Inner.shown search end }
-{
-    let last = search.last;
-    Remarks::At(Span { begin: 0, end }, last)
+    search.shown(bytes.len())
 }
 
 // A character of a line's ending.
@@ -111,53 +81,45 @@ fn is_of_ending(c: u8) -> bool
     (c == CR) | (c == LF)
 }
 
-// The search behind the CR or LF at i: another line begins, and the CR ended the one at hand.
-fn pass(search: Search, bytes: &[u8], i: usize) -> Search
-    requires { (search.begin ≤ i) × (i < length bytes.now) × (printable (Inner.character_at bytes.now i) ≡ false) }
-    ensures { Inner.Passes search bytes.now i result }
-{
-    let before = search.last;
-    let begin = search.begin;
-    let next = i + 1;
-    if bytes[i] % 0x80 != CR {
-        return Search {
-            begin: next,
-            last: before,
-        };
+impl Search {
+    // What it shows where the lines end.
+    fn shown(self, end: usize) -> Remarks
+        ensures { result ≡ Inner.shown self end }
+    {
+        Remarks {
+            lines: Span { begin: 0, end },
+            id_line: self.last,
+        }
     }
-    Search {
-        begin: next,
-        last: later(before, id_line_at(bytes, begin, i)),
+
+    // The search behind the CR or LF at i: another line begins, and the CR ended the one at hand.
+    fn pass(self, bytes: &[u8], i: usize) -> Search
+        requires { (self.begin ≤ i) × (i < length bytes.now) × (printable (Inner.character_at bytes.now i) ≡ false) }
+        ensures { Inner.Passes self bytes.now i result }
+    {
+        let begin = i + 1;
+        if bytes[i] % 0x80 != CR {
+            return Search { begin, ..self };
+        }
+        let last = id_line_at(bytes, self.begin, i).or(self.last);
+        Search { begin, last }
     }
 }
 
 // The line between two places, where it begins with `ID`.
-fn id_line_at(bytes: &[u8], begin: usize, end: usize) -> IdLine
+fn id_line_at(bytes: &[u8], begin: usize, end: usize) -> Option<Span>
     requires { (begin ≤ end) × (end ≤ length bytes.now) }
     ensures { result ≡ Spec.id_at (Spec.line_at begin (Inner.between bytes.now begin end)) }
 {
-    if !is_id(&bytes[begin..end]) {
-        return IdLine::Nothing;
-    }
-    IdLine::At(Span { begin, end })
+    is_id(&bytes[begin..end]).then_some(Span { begin, end })
 }
 
 // The line begins with `ID`.
 fn is_id(line: &[u8]) -> bool
     ensures { result ≡ Spec.is_id (map seven_bits line.now) }
 {
-    if line.len() < 2 {
+    let [i, d, ..] = line else {
         return false;
-    }
-    (line[0] % 0x80 == b'I') & (line[1] % 0x80 == b'D')
-}
-
-// The later of two, where there is one.
-fn later(before: IdLine, line: IdLine) -> IdLine
-    ensures { result ≡ Spec.later_of before line }
-{
-    match line {
-        IdLine::At(_) => line,
-        IdLine::Nothing => before,
-    }
+    };
+    (i % 0x80 == b'I') & (d % 0x80 == b'D')
 }

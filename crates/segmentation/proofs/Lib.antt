@@ -3,3 +3,4 @@ pub mod SegmentationByLaws
 pub mod SegmentationLaws
 pub mod WayLaws
 pub mod WholeFieldsLaws
+pub mod NamedLaws

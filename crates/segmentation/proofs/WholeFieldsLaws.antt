@@ -1,15 +1,15 @@
 -- Laws of keeping fields whole: a block takes the most characters, up to 250, behind which a field is complete. So it is a way of cutting;
 -- it cuts what has no field too long exactly as the paper says; and no other list of blocks is cut so.
 use Rattle.std.specs.Prelude.{if◌then◌else◌}
-use mathlib.Core.Bool.{Bool, true, false, false≢true, ◌&&◌}
+use mathlib.Core.Bool.{Bool, true, false, false≢true}
 use mathlib.Core.List.{List, [], ◌∷◌}
 use mathlib.Core.Logic.{◌⊎◌, inl, inr}
 use mathlib.Core.Path.{◌≡◌, refl, sym, ◌∙◌}
 use Prim.Native.Nat.{ℕ, zero, suc, ◌+◌, ◌-◌, ◌≤◌, ◌<◌, min}
 use native.Mathlib.Numerals.{sub-one}
 use native.Mathlib.Omega.{arith}
-use borrow.Author.Tests.{leb-true, leb-false, lt-ltb, eqb-true, eqb-false, ne_eqb}
-use lib.Dec.{eqb, leb, ltb}
+use borrow.Author.Tests.{leb-true, leb-false, eqb-true, eqb-false}
+use lib.Dec.{eqb, leb}
 use lib.ListN.{length, take, drop, length-take, length-drop, take-append-drop}
 use lib.Seq.{take_all, take-add}
 use Rattle.line.specs.Character.{CR}
@@ -98,31 +98,17 @@ complete-starts t n e = go (leb (length t) 250) refl
         let within = complete-within 250 t in
         rw full (omega arith)
 
--- how many are complete, once they are found; else as many as are left to be looked at
-abbrev pub sought : ℕ → ℕ → ℕ
-sought found k = if eqb found 0 then k else found
-
--- at a place a field is complete, or it is not, and one character less is looked at
-pub sought_turn : (n found : ℕ) (t : List ℕ) → 1 ≤ n → ((ends_in_cr (take n t) ≡ true) × (found ≡ n)) ⊎ ((ends_in_cr (take n t) ≡ false) × (found ≡ 0)) →
-    complete n t ≡ sought found (complete (n - 1) t)
+-- at a place where a field is complete, they are so many
+pub complete-here : (n : ℕ) (t : List ℕ) → 1 ≤ n → ends_in_cr (take n t) ≡ true → complete n t ≡ n
 unfolding complete
-sought_turn zero found t h came = absurd (omega arith)
-sought_turn (suc n) found t h (inl (e, q)) = rw (e, q, ne_eqb (suc n) 0 (λ z. omega arith))
-sought_turn (suc n) found t h (inr (e, q)) = rw (e, q, sub-one)
+complete-here zero t h e = absurd (omega arith)
+complete-here (suc n) t h e = rw e
 
--- at the end they are found, or there are none
-pub sought-ends : (n found : ℕ) (t : List ℕ) → (eqb found 0 && ltb 0 n) ≡ false → sought found (complete n t) ≡ found
+-- at any other, one character less is looked at
+pub complete-further : (n : ℕ) (t : List ℕ) → 1 ≤ n → ends_in_cr (take n t) ≡ false → complete n t ≡ complete (n - 1) t
 unfolding complete
-sought-ends zero found t h = go (eqb found 0) refl
-  where
-    go : (b : Bool) → eqb found 0 ≡ b → sought found 0 ≡ found
-    go true e = rw e (sym (eqb-true found 0 e))
-    go false e = rw e
-sought-ends (suc n) found t h = go (eqb found 0) refl
-  where
-    go : (b : Bool) → eqb found 0 ≡ b → sought found (complete (suc n) t) ≡ found
-    go true e = absurd (false≢true (sym h ∙ rw (e, lt-ltb 0 (suc n) (omega arith))))
-    go false e = rw e
+complete-further zero t h e = absurd (omega arith)
+complete-further (suc n) t h e = rw (e, sub-one)
 
 -- ── A way of cutting ──
 

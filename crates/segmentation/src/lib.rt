@@ -4,7 +4,7 @@
 pub mod way;
 
 ghost use Rattle.std.specs.Prelude.{true, ◌≡◌, ◌+◌, ◌-◌, ◌*◌, ◌<◌, ◌≤◌, min, drop, length};
-ghost use Rattle.line.specs.Answer.{Laid, Wrote, checked_as, done};
+ghost use Rattle.line.specs.Answer.{Laid, Wrote, done, outcome_of};
 ghost use Rattle.line.specs.Transaction.{legal};
 ghost use Rattle.block.specs.Block.{block_of, right};
 ghost use Rattle.block.specs.Segments.{blocks_of, segment_block};
@@ -13,9 +13,9 @@ ghost use Rattle.segmentation.specs.declared.way.Way.TheVariants.{Filled, WholeF
 
 use block::Ending;
 use block::frame::{INFORMATION, OVERHEAD, write};
+use line::Refusal;
 use line::answer::count;
 use line::transaction::{check_transaction, ends_in_cr};
-use line::{Checked, Refusal, Written};
 pub use way::Way;
 use way::{is_cuttable, next_length};
 
@@ -36,7 +36,7 @@ pub fn block_count(way: Way, info: &[u8]) -> usize
 }
 
 // The block at an index, from 0, of the transaction with this information.
-pub fn write_segment(way: Way, info: &[u8], index: usize, out: &mut [u8]) -> Written
+pub fn write_segment(way: Way, info: &[u8], index: usize, out: &mut [u8]) -> Result<usize, Refusal>
     ensures { Wrote
         (write_segment way info.now index (length out.old))
         result out.old out.new }
@@ -48,29 +48,23 @@ pub fn write_segment(way: Way, info: &[u8], index: usize, out: &mut [u8]) -> Wri
 }
 
 // All blocks of the transaction with this information, one after the other.
-pub fn write_segments(way: Way, info: &[u8], out: &mut [u8]) -> Written
+pub fn write_segments(way: Way, info: &[u8], out: &mut [u8]) -> Result<usize, Refusal>
     ensures { Wrote
         (write_segments way info.now (length out.old))
         result out.old out.new }
 {
     if out.len() < room_for(way, info) {
-        return Written::Refused(Refusal::Size);
+        return Err(Refusal::Size);
     }
-    match check_cuttable(way, info) {
-        Checked::Refused(refusal) => Written::Refused(refusal),
-        Checked::Count(_) => Written::Count(put_segments(way, info, out)),
-    }
+    check_cuttable(way, info)?;
+    Ok(put_segments(way, info, out))
 }
 
 // How many blocks information of this length fills.
 fn filled_count(length: usize) -> usize
     ensures { result ≡ block_count length }
 {
-    if length % INFORMATION == 0 {
-        length / INFORMATION
-    } else {
-        length / INFORMATION + 1
-    }
+    length.div_ceil(INFORMATION)
 }
 
 // How many blocks the information takes, cut by cut.
@@ -79,6 +73,7 @@ fn count_segments(way: Way, info: &[u8]) -> usize
 {
     let mut count = 0;
     let mut from = 0;
+    // From cut to cut, by the length that the way takes: no `for`.
     while from < info.len() {
         from += next_length(way, &info[from..]);
         count += 1;
@@ -87,17 +82,14 @@ fn count_segments(way: Way, info: &[u8]) -> usize
 }
 
 // The length of the information of a transaction that the way can cut, or why it is none.
-fn check_cuttable(way: Way, info: &[u8]) -> Checked
-    ensures { checked_as result ≡ of_cuttable way info.now (done (length info.now)) }
+fn check_cuttable(way: Way, info: &[u8]) -> Result<usize, Refusal>
+    ensures { outcome_of result ≡ of_cuttable way info.now (done (length info.now)) }
 {
-    let checked = check_transaction(info);
-    if is_cuttable(way, info) {
-        return checked;
+    let n = check_transaction(info)?;
+    if !is_cuttable(way, info) {
+        return Err(Refusal::Length);
     }
-    match checked {
-        Checked::Refused(_) => checked,
-        Checked::Count(_) => Checked::Refused(Refusal::Length),
-    }
+    Ok(n)
 }
 
 // The bytes that all blocks need.
@@ -112,43 +104,36 @@ fn room_for(way: Way, info: &[u8]) -> usize
 }
 
 // The block at an index, each block filled.
-fn write_filled(info: &[u8], index: usize, out: &mut [u8]) -> Written
+fn write_filled(info: &[u8], index: usize, out: &mut [u8]) -> Result<usize, Refusal>
     ensures { Wrote
         (write_segment Filled info.now index (length out.old))
         result out.old out.new }
 {
     if filled_count(info.len()) <= index {
-        return Written::Refused(Refusal::Range);
+        return Err(Refusal::Range);
     }
     if out.len() < segment_length(info.len(), index) + OVERHEAD {
-        return Written::Refused(Refusal::Size);
+        return Err(Refusal::Size);
     }
-    match check_transaction(info) {
-        Checked::Refused(refusal) => Written::Refused(refusal),
-        Checked::Count(_) => Written::Count(put_segment(Way::Filled, info, index, out)),
-    }
+    check_transaction(info)?;
+    Ok(put_segment(Way::Filled, info, index, out))
 }
 
 // The block at an index, with whole fields: which blocks there are is known only of a transaction
 // that can be cut so.
-fn write_whole(info: &[u8], index: usize, out: &mut [u8]) -> Written
+fn write_whole(info: &[u8], index: usize, out: &mut [u8]) -> Result<usize, Refusal>
     ensures { Wrote
         (write_segment WholeFields info.now index (length out.old))
         result out.old out.new }
 {
     if out.len() < LONGEST {
-        return Written::Refused(Refusal::Size);
+        return Err(Refusal::Size);
     }
-    let checked = check_cuttable(Way::WholeFields, info);
-    match checked {
-        Checked::Refused(refusal) => Written::Refused(refusal),
-        Checked::Count(_) => {
-            if index < count_segments(Way::WholeFields, info) {
-                return Written::Count(put_segment(Way::WholeFields, info, index, out));
-            }
-            Written::Refused(Refusal::Range)
-        }
+    check_cuttable(Way::WholeFields, info)?;
+    if count_segments(Way::WholeFields, info) <= index {
+        return Err(Refusal::Range);
     }
+    Ok(put_segment(Way::WholeFields, info, index, out))
 }
 
 // The length of the segment at an index, each block filled.
@@ -156,12 +141,7 @@ fn segment_length(length: usize, index: usize) -> usize
     requires { index < block_count length }
     ensures { result ≡ min 250 (length - 250 * index) }
 {
-    let rest = length - INFORMATION * index;
-    if rest < INFORMATION {
-        rest
-    } else {
-        INFORMATION
-    }
+    INFORMATION.min(length - INFORMATION * index)
 }
 
 // The block at an index, at the start of the output.
@@ -188,6 +168,7 @@ fn put_segments(way: Way, info: &[u8], out: &mut [u8]) -> usize
     let n = info.len();
     let mut from = 0;
     let mut at = 0;
+    // From cut to cut, as in `count_segments`.
     while from < n {
         let end = from + next_length(way, &info[from..]);
         at += put_piece(&info[from..end], end == n, &mut out[at..]);
@@ -202,10 +183,8 @@ fn segment_start(way: Way, info: &[u8], index: usize) -> usize
         × (drop result info.now ≡ behind (cut_by way) index info.now) }
 {
     let mut from = 0;
-    let mut i = 0;
-    while i < index {
+    for _ in 0..index {
         from += next_length(way, &info[from..]);
-        i += 1;
     }
     from
 }

@@ -5,7 +5,7 @@ ghost use Rattle.segmentation.specs.Segmentation.{complete, cut_by, cuttable, fi
 use block::frame::INFORMATION;
 use line::transaction::ends_in_cr;
 
-// How a transaction is cut into blocks.
+// How a transaction is cut into blocks: a closed list, which C and the saved settings number.
 #[derive(Clone, Copy)]
 pub enum Way {
     // Each block is filled, and the rest is put in the last.
@@ -30,6 +30,7 @@ fn fields_fit(info: &[u8]) -> bool
     ensures { result ≡ fields_within 250 info.now }
 {
     let mut from = 0;
+    // From cut to cut, by what is complete: no `for`.
     while INFORMATION < info.len() - from {
         let rest = &info[from..];
         let n = complete_fields(rest);
@@ -58,27 +59,22 @@ pub(crate) fn next_length(way: Way, rest: &[u8]) -> usize
     }
 }
 
-// How many characters the complete fields have that fit into a block: those up to the last CR.
+// How many characters the complete fields have that fit into a block: those up to the last CR, and
+// nought where there is none, a number as in the definition.
 fn complete_fields(rest: &[u8]) -> usize
     ensures { result ≡ min (length rest.now) (complete 250 rest.now) }
 {
-    let mut found = 0;
-    let mut n = within(rest);
-    while (found == 0) & (0 < n) {
+    for n in (1..=within(rest)).rev() {
         if ends_in_cr(&rest[..n]) {
-            found = n;
+            return n;
         }
-        n -= 1;
     }
-    found
+    0
 }
 
 // A block's characters, or as many as are left.
 fn within(rest: &[u8]) -> usize
     ensures { result ≡ min (length rest.now) 250 }
 {
-    if rest.len() < INFORMATION {
-        return rest.len();
-    }
-    INFORMATION
+    rest.len().min(INFORMATION)
 }

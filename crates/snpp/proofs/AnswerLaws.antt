@@ -1,6 +1,6 @@
 -- Laws of answers by their numbers: nothing has none, and any other is written with three digits.
 use mathlib.Core.List.{[], ◌∷◌, ◌++◌}
-use mathlib.Core.Option.{get_or}
+use Rattle.std.specs.Option.{unwrap_or}
 use mathlib.Core.Path.{◌≡◌, refl}
 use Prim.Native.Nat.{ℕ, ◌≤◌}
 use native.Mathlib.Omega.{arith}
@@ -10,7 +10,7 @@ use Rattle.snpp.specs.Reaction.{Answer, nothing, ready, success, goodbye, unknow
 
 -- the number, and 0 where there is none
 abbrev pub number_of : Answer → ℕ
-number_of a = get_or (answer_number a) 0
+number_of a = unwrap_or (answer_number a) 0
 
 -- it has three digits at most
 pub number_small : (a : Answer) → number_of a ≤ 999

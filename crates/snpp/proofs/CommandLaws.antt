@@ -1,37 +1,28 @@
 -- Laws of commands: the lines that say one are those that are recognized as it, and how the code reads a line's word.
-use Rattle.std.specs.Prelude.{if◌then◌else◌}
-use mathlib.Core.Bool.{Bool, true, false, ◌&&◌, and-eq-true_iff}
+use Rattle.std.specs.Prelude.{if◌then◌else◌, Option, None, Some}
+use Rattle.std.specs.Char.{to_ascii_uppercase}
+use mathlib.Core.Bool.{Bool, true, false, cond, ◌&&◌, and-false, and-eq-true_iff}
 use mathlib.Core.List.{List, [], ◌∷◌, ◌++◌, map, append-nil}
-use mathlib.Core.Option.{Option, none, some}
 use mathlib.Core.Path.{◌≡◌, refl, sym, ap, subst, ◌∙◌}
 use Prim.Native.Nat.{ℕ, ◌+◌, ◌-◌, ◌≤◌, ◌<◌}
 use native.Mathlib.Omega.{arith}
-use borrow.Author.Tests.{eq-eqb, ne_eqb, eqb-true, leb-true, le-leb, lt-leb}
-use lib.Dec.{eqb, leb}
+use borrow.Author.Tests.{ltb-true, ltb-false, eq-eqb, ne_eqb, eqb-true, leb-true, le-leb, lt-leb}
+use lib.Dec.{ltb, eqb, leb}
 use lib.ListN.{length, get_or, take, drop, length-map, length-append, take-append-drop, drop_of_length-le}
-use lib.Seq.{drop-cons, take_at, drop_at, take_all}
+use lib.Seq.{take_at, drop_at, take_all}
 use Rattle.line.proofs.SameLaws.{same_equal, same-lengths}
 use Rattle.line.specs.Test.{all, same}
 use Rattle.line.specs.Text.{bytes_of}
 use Rattle.snpp.specs.Command.{Command, page, message, send, reset, quit, EitherCase, end, capital, small, SPACE, Says, pages, messages, sends, resets, quits, to_capital, bare_command, text_command, command_with, recognized}
 
 -- no command is not a command
-none-some : {c : Command} → ◌≡◌ {A = Option Command} none (some c) → ⊥
+none-some : {c : Command} → ◌≡◌ {A = Option Command} None (Some c) → ⊥
 none-some e = let z : ◌≡◌ {A = ℕ} 0 1 = cc in omega arith
 
 -- ── The word of a line ──
 
--- a line of four characters or more has this word
-pub word_of : (line : List ℕ) → 4 ≤ length line →
-    map to_capital (take 4 line) ≡ to_capital (get_or line 0 0) ∷ to_capital (get_or line 1 0) ∷ to_capital (get_or line 2 0) ∷ to_capital (get_or line 3 0) ∷ []
-word_of [] h = absurd (omega arith)
-word_of (a ∷ []) h = absurd (omega arith)
-word_of (a ∷ b ∷ []) h = absurd (omega arith)
-word_of (a ∷ b ∷ c ∷ []) h = absurd (omega arith)
-word_of (a ∷ b ∷ c ∷ d ∷ line) h = refl
-
 -- a shorter line says nothing
-pub recognized-short : (line : List ℕ) → length line < 4 → recognized line ≡ none
+pub recognized-short : (line : List ℕ) → length line < 4 → recognized line ≡ None
 unfolding recognized
 recognized-short line h =
     let word = map to_capital (take 4 line) in
@@ -39,20 +30,44 @@ recognized-short line h =
     let other : (w : List ℕ) → length w ≡ 4 → same word w ≡ false = λ w e. sym (same-lengths word w (λ f. omega arith)) in
     rw (drop_of_length-le line {i = 4} (omega arith), other (bytes_of "SEND") refl, other (bytes_of "RESE") refl, other (bytes_of "QUIT") refl)
 
--- a line that is its word alone
-pub recognized_bare : (line : List ℕ) → length line ≡ 4 → recognized line ≡ bare_command (map to_capital (take 4 line))
-unfolding recognized
-recognized_bare line h = rw (drop_of_length-le line {i = 4} (omega arith))
+-- the library's change to capitals is this one
+capital_ascii : (c : ℕ) → to_ascii_uppercase c ≡ to_capital c
+capital_ascii c = go (ltb c 97) (ltb c 123) refl refl
+  where
+    go : (b d : Bool) → ltb c 97 ≡ b → ltb c 123 ≡ d → cond b c (cond d (c - 32) c) ≡ to_capital c
+    go true d e f =
+        let low : c < 97 = ltb-true c 97 e in
+        rw (lt-leb 0x61 c low)
+    go false true e f =
+        let low : 97 ≤ c = ltb-false c 97 e in
+        let high : c < 123 = ltb-true c 123 f in
+        rw (le-leb 0x61 c low, le-leb c 0x7A (omega arith))
+    go false false e f =
+        let high : 123 ≤ c = ltb-false c 123 f in
+        rw (lt-leb c 0x7A (omega arith), and-false)
 
--- a line with a character that is no space behind its word
-pub recognized-joined : (line : List ℕ) → 4 < length line → (get_or line 4 0 ≡ SPACE → ⊥) → recognized line ≡ none
-unfolding recognized
-recognized-joined line h e = rw (drop-cons line 4 0 h, ne_eqb (get_or line 4 0) SPACE e)
+-- so that of a word is
+capitals_ascii : (word : List ℕ) → map to_ascii_uppercase word ≡ map to_capital word
+capitals_ascii [] = refl
+capitals_ascii (c ∷ word) = rw (capital_ascii c, capitals_ascii word)
 
--- a line with a space and a text behind its word
-pub recognized-spaced : (line : List ℕ) → 4 < length line → get_or line 4 0 ≡ SPACE → recognized line ≡ text_command (map to_capital (take 4 line)) (drop 5 line)
+-- a line by its word in capitals and what stands behind that
+pub recognized_cut : (line letters rest : List ℕ) → letters ≡ take 4 line → rest ≡ drop 4 line → recognized line ≡ command_with (map to_ascii_uppercase letters) rest
 unfolding recognized
-recognized-spaced line h e = rw (drop-cons line 4 0 h, eq-eqb (get_or line 4 0) SPACE e)
+recognized_cut line letters rest e f = rw (e, f, capitals_ascii (take 4 line))
+
+-- a word with nothing behind it
+pub nothing_bare : (word rest : List ℕ) → length rest ≡ 0 → command_with word rest ≡ bare_command word
+nothing_bare word [] e = refl
+nothing_bare word (c ∷ rest) e = absurd (omega arith)
+
+-- a word with a character that is no space behind it
+pub joined_none : (word text : List ℕ) (c : ℕ) → (c ≡ SPACE → ⊥) → command_with word (c ∷ text) ≡ None
+joined_none word text c e = rw (ne_eqb c SPACE e)
+
+-- a word with a space and a text behind it
+pub spaced_text : (word text : List ℕ) (c : ℕ) → c ≡ SPACE → command_with word (c ∷ text) ≡ text_command word text
+spaced_text word text c e = rw (eq-eqb c SPACE e)
 
 -- ── The lines that say a command ──
 
@@ -116,7 +131,7 @@ spelled_recognized word {letters} rest l h e =
     rw (take_at letters rest 4 long, drop_at letters rest 4 long, made)
 
 -- a line that says a command is recognized as it
-pub says_recognized : {line : List ℕ} {c : Command} → Says line c → recognized line ≡ some c
+pub says_recognized : {line : List ℕ} {c : Command} → Says line c → recognized line ≡ Some c
 unfolding all same
 says_recognized (pages text e) = spelled_recognized (bytes_of "PAGE") (SPACE ∷ text) refl refl e
 says_recognized (messages text e) = spelled_recognized (bytes_of "MESS") (SPACE ∷ text) refl refl e
@@ -136,7 +151,7 @@ module _ (line : List ℕ) (c : Command) where
 
   -- nothing stands behind the word
   bare_says : (a b d : Bool) → same word (bytes_of "SEND") ≡ a → same word (bytes_of "RESE") ≡ b → same word (bytes_of "QUIT") ≡ d →
-      (if a then some send else if b then some reset else if d then some quit else none) ≡ some c → Says (take 4 line) c
+      (if a then Some send else if b then Some reset else if d then Some quit else None) ≡ Some c → Says (take 4 line) c
   unfolding all
   bare_says true b d f g h e = let is : send ≡ c = cc in subst (Says (take 4 line)) is (sends (word_spelled line (bytes_of "SEND") refl f))
   bare_says false true d f g h e = let is : reset ≡ c = cc in subst (Says (take 4 line)) is (resets (word_spelled line (bytes_of "RESE") refl g))
@@ -145,24 +160,24 @@ module _ (line : List ℕ) (c : Command) where
 
   -- a space and a text do
   text_says : (text : List ℕ) (a b : Bool) → same word (bytes_of "PAGE") ≡ a → same word (bytes_of "MESS") ≡ b →
-      (if a then some (page text) else if b then some (message text) else none) ≡ some c → Says (take 4 line ++ SPACE ∷ text) c
+      (if a then Some (page text) else if b then Some (message text) else None) ≡ Some c → Says (take 4 line ++ SPACE ∷ text) c
   unfolding all
   text_says text true b f g e = let is : page text ≡ c = cc in subst (Says (take 4 line ++ SPACE ∷ text)) is (pages text (word_spelled line (bytes_of "PAGE") refl f))
   text_says text false true f g e = let is : message text ≡ c = cc in subst (Says (take 4 line ++ SPACE ∷ text)) is (messages text (word_spelled line (bytes_of "MESS") refl g))
   text_says text false false f g e = absurd (none-some e)
 
   -- a character and a text do
-  behind_says : (x : ℕ) (text : List ℕ) (b : Bool) → eqb x SPACE ≡ b → (if b then text_command word text else none) ≡ some c → Says (take 4 line ++ x ∷ text) c
+  behind_says : (x : ℕ) (text : List ℕ) (b : Bool) → eqb x SPACE ≡ b → (if b then text_command word text else None) ≡ Some c → Says (take 4 line ++ x ∷ text) c
   behind_says x text true f e = rw (eqb-true x SPACE f) (text_says text (same word (bytes_of "PAGE")) (same word (bytes_of "MESS")) refl refl e)
   behind_says x text false f e = absurd (none-some e)
 
   -- whatever does
-  with_says : (rest : List ℕ) → command_with word rest ≡ some c → Says (take 4 line ++ rest) c
+  with_says : (rest : List ℕ) → command_with word rest ≡ Some c → Says (take 4 line ++ rest) c
   with_says [] e = rw append-nil (bare_says (same word (bytes_of "SEND")) (same word (bytes_of "RESE")) (same word (bytes_of "QUIT")) refl refl refl e)
   with_says (x ∷ text) e = behind_says x text (eqb x SPACE) refl e
 
   -- a line that is recognized as a command says it
-  pub recognized_says : recognized line ≡ some c → Says line c
+  pub recognized_says : recognized line ≡ Some c → Says line c
   unfolding recognized
   recognized_says e = subst (λ l. Says l c) (take-append-drop 4 line) (with_says (drop 4 line) e)
 
@@ -176,17 +191,17 @@ spelled_length (small e) = rw (spelled_length e)
 
 -- the text of a command: none but PAGE and MESS has one
 abbrev pub text_of : Command → Option (List ℕ)
-text_of (page text) = some text
-text_of (message text) = some text
-text_of send = none
-text_of reset = none
-text_of quit = none
+text_of (page text) = Some text
+text_of (message text) = Some text
+text_of send = None
+text_of reset = None
+text_of quit = None
 
 -- a word and a space stand before it
-pub text-behind : (line : List ℕ) (c : Command) (text : List ℕ) → recognized line ≡ some c → text_of c ≡ some text → length line ≡ 5 + length text
+pub text-behind : (line : List ℕ) (c : Command) (text : List ℕ) → recognized line ≡ Some c → text_of c ≡ Some text → length line ≡ 5 + length text
 text-behind line c text e = go (recognized_says line c e)
   where
-    go : {line : List ℕ} {c : Command} → Says line c → text_of c ≡ some text → length line ≡ 5 + length text
+    go : {line : List ℕ} {c : Command} → Says line c → text_of c ≡ Some text → length line ≡ 5 + length text
     go (pages u e) h = let same : u ≡ text = cc in rw (length-append, ← same) (omega (arith, spelled_length e))
     go (messages u e) h = let same : u ≡ text = cc in rw (length-append, ← same) (omega (arith, spelled_length e))
     go (sends e) h = let z : ◌≡◌ {A = ℕ} 0 1 = cc in absurd (omega arith)

@@ -6,6 +6,7 @@ pub mod ReactionLaws
 pub mod RoundTripLaws
 pub mod SendLaws
 pub mod SessionLaws
+pub mod StageLaws
 pub mod StateLaws
 pub mod StepLaws
-pub mod ZeroLaws
+pub mod NamedLaws

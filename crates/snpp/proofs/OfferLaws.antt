@@ -1,7 +1,9 @@
 -- Laws of a page that is offered to the journal: as a transaction it is legal unless it is too long, and what is too long is not admitted.
 use mathlib.Core.Bool.{true, false, ◌&&◌, and-eq-true_iff}
 use mathlib.Core.List.{List, [], ◌∷◌, ◌++◌, append_assoc}
-use mathlib.Core.Option.{none}
+use Rattle.std.specs.Prelude.{Option, None, Result, Ok, Err}
+use Rattle.std.specs.Result.{result_unwrap_or}
+use Rattle.line.specs.Answer.{done, outcome_of}
 use mathlib.Core.Path.{◌≡◌, sym}
 use Prim.Native.Nat.{ℕ, ◌+◌, ◌≤◌, ◌<◌}
 use native.Mathlib.Omega.{arith}
@@ -18,8 +20,7 @@ use Rattle.journal.proofs.StorageLaws.{stored-own}
 use Rattle.admission.proofs.AdmissionLaws.{admit_stores}
 use Rattle.admission.specs.Admission.{Admits, admit_to}
 use Rattle.admission.specs.Content.{is_pager_id, content, admits}
-use Rattle.admission.specs.declared.Admitted.{Admitted}
-use Rattle.admission.specs.declared.Admitted.TheVariants.{Rejected}
+use Rattle.line.specs.declared.answer.Refusal.{Refusal}
 use Rattle.central.specs.Inner.{Readable, transactions_in}
 use Rattle.snpp.specs.Inner.{Offers}
 use Rattle.snpp.specs.Reaction.{page_of}
@@ -60,17 +61,22 @@ page-legal pager text p m h =
     let made : Fields (pager ∷ text ∷ []) (page_of pager text) = next p (next m none) in
     transaction-legal (record { fields = pager ∷ text ∷ []; made = made; some = omega arith; within = h })
 
+-- what an answer that is no refusal has
+done_value : (a : Result (Option ℕ) Refusal) {o : Option ℕ} → outcome_of a ≡ done o → result_unwrap_or a None ≡ o
+done_value (Ok x) e = cc
+done_value (Err q) e = let z : ◌≡◌ {A = ℕ} 0 1 = cc in absurd (omega arith)
+
 -- a page that is offered to a journal that is read
 module _ (most : ℕ) (pagers buffer : List ℕ) (n : ℕ) (pager text : List ℕ) (bytes : all byte buffer ≡ true) (read : Readable buffer n) where
   -- it is too long
-  pub offers-long : most ≤ 2000 → 2000 < length (page_of pager text) → Offers most pagers n pager text Rejected buffer buffer
+  pub offers-long : most ≤ 2000 → 2000 < length (page_of pager text) → Offers most pagers n pager text None buffer buffer
   unfolding admits content
   offers-long m h =
       let over = lt-leb (length (page_of pager text)) most (omega arith) in
       record { answers = rw over; leaves = rw over (sym (stored-own buffer n (transactions_in buffer n) bytes read)) }
 
   -- it is not, and admission decides
-  pub offers-admitted : {a : Admitted} {buffer' : List ℕ} → legal (page_of pager text) ≡ true → Admits (admit_to most pagers buffer n (page_of pager text)) a buffer buffer' → Offers most pagers n pager text a buffer buffer'
-  offers-admitted good w =
+  pub offers-admitted : {a : Result (Option ℕ) Refusal} {buffer' : List ℕ} → legal (page_of pager text) ≡ true → Admits (admit_to most pagers buffer n (page_of pager text)) a buffer buffer' → Offers most pagers n pager text (result_unwrap_or a None) buffer buffer'
+  offers-admitted {a} good w =
       let (answers, leaves) = admit_stores most pagers buffer n (page_of pager text) (transactions_in buffer n) bytes read good w in
-      record { answers = answers; leaves = leaves }
+      record { answers = done_value a answers; leaves = leaves }

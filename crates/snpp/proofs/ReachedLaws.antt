@@ -1,7 +1,7 @@
 -- The start leads to the states in range, and to no others: what a step leaves can be, and what can be is brought about by PAGE, MESS and QUIT.
 use mathlib.Core.Bool.{true, ◌&&◌}
 use mathlib.Core.List.{List, [], ◌∷◌, ◌++◌}
-use mathlib.Core.Option.{Option, none, some}
+use Rattle.std.specs.Prelude.{Option, None, Some}
 use mathlib.Core.Path.{◌≡◌, refl, ap, subst, ◌∙◌}
 use Prim.Native.Nat.{ℕ, ◌≤◌}
 use native.Mathlib.Omega.{arith}
@@ -81,28 +81,28 @@ unfolding all
 no_pagers = refl
 
 -- a line leads on
-leads : (x : Session) (line : List ℕ) (c : Command) → Sound x → length line ≤ 2048 → Says line c → Reached (saved x) → Reached (saved (reacts 2000 [] transactions x [] (some c)).next)
+leads : (x : Session) (line : List ℕ) (c : Command) → Sound x → length line ≤ 2048 → Says line c → Reached (saved x) → Reached (saved (reacts 2000 [] transactions x [] (Some c)).next)
 leads x line c sound short says before =
     let step = step-reacts x (record { longest = 2000 }) [] buffer (size_of []) [] line 6 sound refl no_pagers buffer-read short (omega arith) in
     rw (says_recognized says) at (onward before (record { longest = 2000 }) [] buffer (size_of []) line 6 step)
 
 -- PAGE with a pager ID
-pager-leads : (p : List ℕ) → is_pager_id p ≡ true → Reached (saved (ongoing (record { pager = some p; message = none })))
+pager-leads : (p : List ℕ) → is_pager_id p ≡ true → Reached (saved (ongoing (record { pager = Some p; message = None })))
 unfolding reacts
 pager-leads p h =
     let short = pager-short p h in
     rw h at (leads (ongoing empty) (bytes_of "PAGE" ++ SPACE ∷ p) (page p) (on no_pager no_message) (omega (arith, short, eight_digits)) (pages p (own_letters (bytes_of "PAGE"))) begun)
 
 -- a pager ID or none
-entry_leads : (o : Option (List ℕ)) → SoundPager o → Reached (saved (ongoing (record { pager = o; message = none })))
-entry_leads none no_pager = begun
-entry_leads (some p) (a_pager h) = pager-leads p h
+entry_leads : (o : Option (List ℕ)) → SoundPager o → Reached (saved (ongoing (record { pager = o; message = None })))
+entry_leads None no_pager = begun
+entry_leads (Some p) (a_pager h) = pager-leads p h
 
 -- MESS with a message behind it
-message-leads : (o : Option (List ℕ)) → SoundPager o → (m : List ℕ) → all printable m ≡ true → length m ≤ 2043 → Reached (saved (ongoing (record { pager = o; message = some m })))
+message-leads : (o : Option (List ℕ)) → SoundPager o → (m : List ℕ) → all printable m ≡ true → length m ≤ 2043 → Reached (saved (ongoing (record { pager = o; message = Some m })))
 unfolding reacts
 message-leads o s m h l =
-    rw h at (leads (ongoing (record { pager = o; message = none })) (bytes_of "MESS" ++ SPACE ∷ m) (message m) (on s no_message) (omega arith) (messages m (own_letters (bytes_of "MESS"))) (entry_leads o s))
+    rw h at (leads (ongoing (record { pager = o; message = None })) (bytes_of "MESS" ++ SPACE ∷ m) (message m) (on s no_message) (omega arith) (messages m (own_letters (bytes_of "MESS"))) (entry_leads o s))
 
 -- every session that can be is led to
 sound-reached : (x : Session) → Sound x → Reached (saved x)
@@ -111,8 +111,8 @@ sound-reached closed over = leads (ongoing empty) (bytes_of "QUIT") quit (on no_
 sound-reached (ongoing e) (on p m) = go e.message m
   where
     go : (o : Option (List ℕ)) → SoundMessage o → Reached (saved (ongoing (record { pager = e.pager; message = o })))
-    go none no_message = entry_leads e.pager p
-    go (some m) (a_message h l) = message-leads e.pager p m h l
+    go None no_message = entry_leads e.pager p
+    go (Some m) (a_message h l) = message-leads e.pager p m h l
 
 -- and so is every state in range
 pub in_range-reached : (s : State) → in_range s ≡ true → length s.pager ≡ 8 → length s.message ≡ 2043 → Reached s

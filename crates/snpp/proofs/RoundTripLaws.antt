@@ -1,7 +1,7 @@
 -- The round trip: a journal's lines, taken in one after the other, bring its records in again, one for each three lines.
 use mathlib.Core.Bool.{true, not, false≢true, and-eq-true_iff}
 use mathlib.Core.List.{List, [], ◌∷◌, ◌++◌, map, flat_map, append_assoc, append-nil}
-use mathlib.Core.Option.{none, some}
+use Rattle.std.specs.Prelude.{None, Some}
 use mathlib.Core.Path.{◌≡◌, refl, sym, ap, subst, ◌∙◌}
 use Prim.Native.Nat.{ℕ, ◌+◌, ◌≤◌}
 use native.Mathlib.Omega.{arith}
@@ -150,7 +150,7 @@ module _ (settings : Settings) (pagers : List ℕ) (room : ℕ) (longest : setti
 
   -- a line that says a command
   line_taken : {x : Session} {ts : List (List ℕ)} {g : Gateway} (l : List ℕ) (c : Command) → Holding x ts g → Journal ts → Sound x → Says l c → length l ≤ 2048 →
-      stepped g.state settings pagers g.buffer g.length l room ≡ done (reacts settings.longest pagers transactions x ts (some c))
+      stepped g.state settings pagers g.buffer g.length l room ≡ done (reacts settings.longest pagers transactions x ts (Some c))
   line_taken {x} {ts} {g} l c h j sound says short =
       let step = step-reacts x settings pagers g.buffer g.length ts l room sound in_range_lem listing (holding_read h j) short roomy in
       rw h.state (rw (says_recognized says) at step)
@@ -163,8 +163,8 @@ module _ (settings : Settings) (pagers : List ℕ) (room : ℕ) (longest : setti
   unfolding reacts
   page-taken ts g pager text h j k p m short ok =
       let few = pager-short pager p in
-      let e₁ : Entry = record { pager = some pager; message = none } in
-      let e₂ : Entry = record { pager = some pager; message = some text } in
+      let e₁ : Entry = record { pager = Some pager; message = None } in
+      let e₂ : Entry = record { pager = Some pager; message = Some text } in
       let y₁ : Reaction (List (List ℕ)) = record { next = ongoing e₁; journal = ts; answer = success } in
       let y₂ : Reaction (List (List ℕ)) = record { next = ongoing e₂; journal = ts; answer = success } in
       let y₃ : Reaction (List (List ℕ)) = record { next = ongoing empty; journal = transactions.put ts (page_of pager text); answer = success } in

@@ -1,8 +1,8 @@
 -- Laws of sessions: in which texts can be held, that a reaction keeps them so, and that they are saved and read back.
-use Rattle.std.specs.Prelude.{if◌then◌else◌}
+use Rattle.std.specs.Prelude.{if◌then◌else◌, Option, None, Some}
 use mathlib.Core.Bool.{Bool, true, false, not, ◌&&◌, and-eq-true_iff}
 use mathlib.Core.List.{List, []}
-use mathlib.Core.Option.{Option, none, some, get_or}
+use Rattle.std.specs.Option.{unwrap_or}
 use mathlib.Core.Path.{◌≡◌, refl, ap, ◌∙◌}
 use Prim.Native.Nat.{ℕ, ◌-◌, ◌≤◌}
 use native.Mathlib.Omega.{arith}
@@ -28,13 +28,13 @@ use Rattle.snpp.proofs.StateLaws.{Held, Ranged, pager-short}
 
 -- a pager ID that can be held: 1 to 8 digits, or none
 pub data SoundPager : Option (List ℕ) → Type 0 where
-  no_pager : SoundPager none
-  a_pager : {p : List ℕ} → is_pager_id p ≡ true → SoundPager (some p)
+  no_pager : SoundPager None
+  a_pager : {p : List ℕ} → is_pager_id p ≡ true → SoundPager (Some p)
 
 -- a message that can be held: at most 2,043 printable characters, or none
 pub data SoundMessage : Option (List ℕ) → Type 0 where
-  no_message : SoundMessage none
-  a_message : {m : List ℕ} → all printable m ≡ true → length m ≤ 2043 → SoundMessage (some m)
+  no_message : SoundMessage None
+  a_message : {m : List ℕ} → all printable m ≡ true → length m ≤ 2043 → SoundMessage (Some m)
 
 -- a session that can be
 pub data Sound : Session → Type 0 where
@@ -55,21 +55,21 @@ laid-holds kind text k h l =
     rw (fits, take_at text (drop (length text) (replicate k 0)) (length text) refl, drop_at text (drop (length text) (replicate k 0)) (length text) refl, h, zeros-drop (length text) k, all-zeros (k - length text))
 
 -- a pager ID that can be held, as it lies in its array
-pager-holds : (o : Option (List ℕ)) → SoundPager o → let p = get_or o [] in (all digit p ≡ true) × (length p ≤ 8)
+pager-holds : (o : Option (List ℕ)) → SoundPager o → let p = unwrap_or o [] in (all digit p ≡ true) × (length p ≤ 8)
 unfolding all no_digits
-pager-holds none no_pager = (refl, omega arith)
-pager-holds (some p) (a_pager h) = (((and-eq-true_iff (leb 1 (length p) && leb (length p) 8) (all digit p)).0 h).1, pager-short p h)
+pager-holds None no_pager = (refl, omega arith)
+pager-holds (Some p) (a_pager h) = (((and-eq-true_iff (leb 1 (length p) && leb (length p) 8) (all digit p)).0 h).1, pager-short p h)
 
 -- a message too
-message-holds : (o : Option (List ℕ)) → SoundMessage o → let m = get_or o [] in (all printable m ≡ true) × (length m ≤ 2043)
+message-holds : (o : Option (List ℕ)) → SoundMessage o → let m = unwrap_or o [] in (all printable m ≡ true) × (length m ≤ 2043)
 unfolding all
-message-holds none no_message = (refl, omega arith)
-message-holds (some m) (a_message h l) = (h, l)
+message-holds None no_message = (refl, omega arith)
+message-holds (Some m) (a_message h l) = (h, l)
 
 -- the lengths are right for the stage
-stage-fits : (o : Option (List ℕ)) (digits : ℕ) → fits (stage_of o) digits (length (get_or o [])) ≡ true
-stage-fits none digits = refl
-stage-fits (some m) digits = refl
+stage-fits : (o : Option (List ℕ)) (digits : ℕ) → fits (stage_of o) digits (length (unwrap_or o [])) ≡ true
+stage-fits None digits = refl
+stage-fits (Some m) digits = refl
 
 -- a session that can be is saved in range
 pub sound-range : (x : Session) → Sound x → in_range (saved x) ≡ true
@@ -78,31 +78,31 @@ sound-range closed over = rw (laid-holds digit [] 8 refl (omega arith), laid-hol
 sound-range (ongoing e) (on p m) =
     let (digits, few) = pager-holds e.pager p in
     let (text, short) = message-holds e.message m in
-    rw (laid-holds digit (get_or e.pager []) 8 digits few, laid-holds printable (get_or e.message []) 2043 text short, stage-fits e.message (length (get_or e.pager [])))
+    rw (laid-holds digit (unwrap_or e.pager []) 8 digits few, laid-holds printable (unwrap_or e.message []) 2043 text short, stage-fits e.message (length (unwrap_or e.pager [])))
 
 -- its arrays have their sizes
 pub sound-sized : (x : Session) → Sound x → (length (saved x).pager ≡ 8) × (length (saved x).message ≡ 2043)
 unfolding no_digits no_text
 sound-sized closed over = (laid-sized [] 8 (omega arith), laid-sized [] 2043 (omega arith))
-sound-sized (ongoing e) (on p m) = (laid-sized (get_or e.pager []) 8 (pager-holds e.pager p).1, laid-sized (get_or e.message []) 2043 (message-holds e.message m).1)
+sound-sized (ongoing e) (on p m) = (laid-sized (unwrap_or e.pager []) 8 (pager-holds e.pager p).1, laid-sized (unwrap_or e.message []) 2043 (message-holds e.message m).1)
 
 -- its pager ID is read back
-pager-back : (o : Option (List ℕ)) → SoundPager o → let p = get_or o [] in (if eqb (length p) 0 then none else some (take (length p) (overlay p no_digits))) ≡ o
-pager-back none no_pager = refl
-pager-back (some p) (a_pager h) =
+pager-back : (o : Option (List ℕ)) → SoundPager o → let p = unwrap_or o [] in (if eqb (length p) 0 then None else Some (take (length p) (overlay p no_digits))) ≡ o
+pager-back None no_pager = refl
+pager-back (Some p) (a_pager h) =
     let (few, _) = (and-eq-true_iff (leb 1 (length p) && leb (length p) 8) (all digit p)).0 h in
     let one = leb-true 1 (length p) ((and-eq-true_iff (leb 1 (length p)) (leb (length p) 8)).0 few).0 in
     rw (ne_eqb (length p) 0 (λ z. omega arith), overlay-start p no_digits (length p) refl)
 
 -- and its message
-message-back : (o : Option (List ℕ)) → let m = get_or o [] in message_at (stage_of o) (take (length m) (overlay m no_text)) ≡ o
-message-back none = refl
-message-back (some m) = ap some (overlay-start m no_text (length m) refl)
+message-back : (o : Option (List ℕ)) → let m = unwrap_or o [] in message_at (stage_of o) (take (length m) (overlay m no_text)) ≡ o
+message-back None = refl
+message-back (Some m) = ap Some (overlay-start m no_text (length m) refl)
 
 -- a session that goes on is at a stage that does
 stage_open : (o : Option (List ℕ)) → is_closed (stage_of o) ≡ false
-stage_open none = refl
-stage_open (some m) = refl
+stage_open None = refl
+stage_open (Some m) = refl
 
 -- a session that can be is read back as it was
 pub session_saved : (x : Session) → Sound x → session_of (saved x) ≡ x
@@ -112,10 +112,10 @@ session_saved (ongoing e) (on p m) = rw (stage_open e.message, pager-back e.page
 -- ── In range ──
 
 -- the pager ID of a state in range can be held
-held-sound : (array : List ℕ) (n : ℕ) → Held digit array n → length array ≡ 8 → SoundPager (if eqb n 0 then none else some (take n array))
+held-sound : (array : List ℕ) (n : ℕ) → Held digit array n → length array ≡ 8 → SoundPager (if eqb n 0 then None else Some (take n array))
 held-sound array n h e = go (eqb n 0) refl
   where
-    go : (b : Bool) → eqb n 0 ≡ b → SoundPager (if b then none else some (take n array))
+    go : (b : Bool) → eqb n 0 ≡ b → SoundPager (if b then None else Some (take n array))
     go true z = no_pager
     go false z = a_pager (held-pager array n h e z)
 
@@ -140,7 +140,7 @@ range-sound s r eight long = go (is_closed s.stage)
 
 -- a command whose text is short enough, as one of a line in range is
 abbrev pub Short : Option Command → Type 0
-Short c = (text : List ℕ) → c ≡ some (message text) → length text ≤ 2043
+Short c = (text : List ℕ) → c ≡ Some (message text) → length text ≤ 2043
 
 -- a reaction leaves a session that can be
 module _ {J : Type 0} (most : ℕ) (pagers : List ℕ) (store : Storage J) where
@@ -149,24 +149,24 @@ module _ {J : Type 0} (most : ℕ) (pagers : List ℕ) (store : Storage J) where
   pager-sound e journal text (on p m) = go (is_pager_id text) refl
     where
       go : (b : Bool) → is_pager_id text ≡ b →
-          Sound (if b then goes_on (record { pager = some text; message = e.message }) journal success else goes_on e journal badText).next
+          Sound (if b then goes_on (record { pager = Some text; message = e.message }) journal success else goes_on e journal badText).next
       go true h = on (a_pager h) m
       go false h = on p m
 
   -- MESS
-  message-sound : (e : Entry) (journal : J) (text : List ℕ) → Sound (ongoing e) → length text ≤ 2043 → Sound (follows most pagers store e journal (some (message text))).next
+  message-sound : (e : Entry) (journal : J) (text : List ℕ) → Sound (ongoing e) → length text ≤ 2043 → Sound (follows most pagers store e journal (Some (message text))).next
   message-sound e journal text (on p m) l = go (all printable text) refl e.message
     where
       go : (b : Bool) → all printable text ≡ b → (o : Option (List ℕ)) → Sound (if not b then goes_on e journal badText else holds_message e journal text o).next
-      go true h none = on p (a_message h l)
-      go true h (some earlier) = on p m
+      go true h None = on p (a_message h l)
+      go true h (Some earlier) = on p m
       go false h o = on p m
 
   -- SEND
   send_sound : (e : Entry) (journal : J) (p m : Option (List ℕ)) → Sound (ongoing e) → Sound (sends most pagers store e journal p m).next
-  send_sound e journal none m s = s
-  send_sound e journal (some p) none s = s
-  send_sound e journal (some p) (some m) s = go (admits most pagers store journal (page_of p m))
+  send_sound e journal None m s = s
+  send_sound e journal (Some p) None s = s
+  send_sound e journal (Some p) (Some m) s = go (admits most pagers store journal (page_of p m))
     where
       go : (b : Bool) → Sound (if b then goes_on empty (store.put journal (page_of p m)) success else goes_on empty journal failed).next
       go true = on no_pager no_message
@@ -176,9 +176,9 @@ module _ {J : Type 0} (most : ℕ) (pagers : List ℕ) (store : Storage J) where
   pub reacts-sound : (x : Session) (journal : J) (c : Option Command) → Sound x → Short c → Sound (reacts most pagers store x journal c).next
   unfolding reacts
   reacts-sound closed journal c s short = over
-  reacts-sound (ongoing e) journal none s short = s
-  reacts-sound (ongoing e) journal (some (page text)) s short = pager-sound e journal text s
-  reacts-sound (ongoing e) journal (some (message text)) s short = message-sound e journal text s (short text refl)
-  reacts-sound (ongoing e) journal (some send) s short = send_sound e journal e.pager e.message s
-  reacts-sound (ongoing e) journal (some reset) s short = on no_pager no_message
-  reacts-sound (ongoing e) journal (some quit) s short = over
+  reacts-sound (ongoing e) journal None s short = s
+  reacts-sound (ongoing e) journal (Some (page text)) s short = pager-sound e journal text s
+  reacts-sound (ongoing e) journal (Some (message text)) s short = message-sound e journal text s (short text refl)
+  reacts-sound (ongoing e) journal (Some send) s short = send_sound e journal e.pager e.message s
+  reacts-sound (ongoing e) journal (Some reset) s short = on no_pager no_message
+  reacts-sound (ongoing e) journal (Some quit) s short = over

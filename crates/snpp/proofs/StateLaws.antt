@@ -1,8 +1,8 @@
 -- Laws of the saved state: a state in range is that of the session it is, and its parts by themselves.
-use Rattle.std.specs.Prelude.{if◌then◌else◌}
+use Rattle.std.specs.Prelude.{if◌then◌else◌, None, Some}
 use mathlib.Core.Bool.{Bool, true, false, false≢true, and-eq-true_iff}
 use mathlib.Core.List.{List, []}
-use mathlib.Core.Option.{none, some, get_or}
+use Rattle.std.specs.Option.{unwrap_or}
 use mathlib.Core.Path.{◌≡◌, refl, sym, ◌∙◌}
 use Prim.Native.Nat.{ℕ, ◌-◌, ◌≤◌}
 use borrow.Author.Tests.{eqb-true, leb-true}
@@ -83,16 +83,16 @@ module _ (s : State) (r : Ranged s) (eight : length s.pager ≡ 8) (long : lengt
       λ i. record { stage = s.stage; pager = pager i; digits = digits i; message = message i; length = count i }
 
   -- the pager ID, where it is none too
-  pager-text : get_or (pager_in s) [] ≡ take s.digits s.pager
+  pager-text : unwrap_or (pager_in s) [] ≡ take s.digits s.pager
   pager-text = go (eqb s.digits 0) refl
     where
-      go : (b : Bool) → eqb s.digits 0 ≡ b → get_or (if b then none else some (take s.digits s.pager)) [] ≡ take s.digits s.pager
+      go : (b : Bool) → eqb s.digits 0 ≡ b → unwrap_or (if b then None else Some (take s.digits s.pager)) [] ≡ take s.digits s.pager
       go true e = rw (eqb-true s.digits 0 e)
       go false e = refl
 
   -- the stage and the message of a session that goes on
   message-text : (stage : Stage) → is_closed stage ≡ false → fits stage s.digits s.length ≡ true →
-      (stage_of (message_at stage (text_in s)) ≡ stage) × (get_or (message_at stage (text_in s)) [] ≡ text_in s)
+      (stage_of (message_at stage (text_in s)) ≡ stage) × (unwrap_or (message_at stage (text_in s)) [] ≡ text_in s)
   message-text Open o f = (refl, rw (eqb-true s.length 0 f))
   message-text Entered o f = (refl, refl)
   message-text Closed o f = absurd (false≢true (sym o))

@@ -8,8 +8,9 @@ use lib.Dec.{leb, ltb}
 use lib.ListN.{length}
 use Rattle.line.proofs.OutcomeLaws.{then_done, map-done, passed}
 use Rattle.line.proofs.OverlayLaws.{overlay-none}
-use Rattle.line.specs.Answer.{Outcome, done, refused, written_as, Wrote}
-use Rattle.line.specs.declared.answer.Written.{Written}
+use Rattle.line.specs.Answer.{Outcome, done, refused, outcome_of, Wrote}
+use Rattle.line.specs.declared.answer.Refusal.{Refusal}
+use Rattle.std.specs.Prelude.{Result}
 use Rattle.journal.specs.Storage.{transactions, decode_in, stored_in}
 use Rattle.central.specs.Inner.{Readable, transactions_in}
 use Rattle.central.specs.Step.{pagers_in_range}
@@ -113,13 +114,13 @@ unfolding stepped
 stepped-done k settings pagers array buffer n line room e = rw e
 
 -- a refusal leaves the state and all memory
-pub steps-refused : {o : Outcome (Reaction (List (List ℕ)))} (k : ℕ) (s : State) (n : ℕ) (w : Written) (buffer out : List ℕ) → o ≡ refused k → written_as w ≡ refused k →
+pub steps-refused : {o : Outcome (Reaction (List (List ℕ)))} (k : ℕ) (s : State) (n : ℕ) (w : Result ℕ Refusal) (buffer out : List ℕ) → o ≡ refused k → outcome_of w ≡ refused k →
     Steps o s n (record { outcome = w; state = s; journal = n }) buffer buffer out out
 unfolding stored_in
 steps-refused k s n w buffer out e a = record { answers = rw e a; state = rw e; counts = rw e; stored = rw e; leaves = rw e (overlay-none out) }
 
 -- a step that is done: the reaction is stored, and its answer written
-pub steps-done : {o : Outcome (Reaction (List (List ℕ)))} {x : Reaction (List (List ℕ))} {s : State} {n : ℕ} {r : Reacted} {w : Written} {array' buffer buffer' out out' : List ℕ} → o ≡ done x →
+pub steps-done : {o : Outcome (Reaction (List (List ℕ)))} {x : Reaction (List (List ℕ))} {s : State} {n : ℕ} {r : Reacted} {w : Result ℕ Refusal} {array' buffer buffer' out out' : List ℕ} → o ≡ done x →
     Does x r array' buffer buffer' → Wrote (done (answer_text (answer_of r.answer))) w out out' →
     Steps o s n (record { outcome = w; state = state_of r.control array'; journal = r.journal }) buffer buffer' out out'
 steps-done e d w =

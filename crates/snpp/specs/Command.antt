@@ -1,6 +1,5 @@
 -- SNPP's commands as lines with their endings off: as a grammar, and as a computation that is proved to decide it.
-use Rattle.std.specs.Prelude.{◌&&◌, List, [], ◌∷◌, ◌++◌, map, ℕ, ◌+◌, ◌-◌, eqb, leb, take, drop, if◌then◌else◌}
-use Rattle.std.proofs.Math.Option.{Option, none, some}
+use Rattle.std.specs.Prelude.{◌&&◌, List, [], ◌∷◌, ◌++◌, map, ℕ, ◌+◌, ◌-◌, eqb, leb, take, drop, if◌then◌else◌, Option, None, Some}
 use Rattle.line.specs.Test.{same}
 use Rattle.line.specs.Text.{bytes_of}
 
@@ -36,22 +35,22 @@ to_capital c = if leb 0x61 c && leb c 0x7A then c - 0x20 else c
 -- the command of a word with nothing behind it
 abbrev pub bare_command : List ℕ → Option Command
 bare_command word =
-    if same word (bytes_of "SEND") then some send
-    else if same word (bytes_of "RESE") then some reset
-    else if same word (bytes_of "QUIT") then some quit
-    else none
+    if same word (bytes_of "SEND") then Some send
+    else if same word (bytes_of "RESE") then Some reset
+    else if same word (bytes_of "QUIT") then Some quit
+    else None
 
 -- the command of a word with a space and a text behind it
 abbrev pub text_command : List ℕ → List ℕ → Option Command
 text_command word text =
-    if same word (bytes_of "PAGE") then some (page text)
-    else if same word (bytes_of "MESS") then some (message text)
-    else none
+    if same word (bytes_of "PAGE") then Some (page text)
+    else if same word (bytes_of "MESS") then Some (message text)
+    else None
 
 -- the command of a word with these bytes behind it
 abbrev pub command_with : List ℕ → List ℕ → Option Command
 command_with word [] = bare_command word
-command_with word (c ∷ text) = if eqb c SPACE then text_command word text else none
+command_with word (c ∷ text) = if eqb c SPACE then text_command word text else None
 
 -- the command that a line says; none where it is not understood: the laws `says_recognized` and `recognized_says` (R-15.1)
 unfoldable pub recognized : List ℕ → Option Command

@@ -1,13 +1,10 @@
 -- What the functions inside a step ask and owe. They work on a saved state in two parts: its control, and the array of the message.
-use Rattle.std.specs.Prelude.{Bool, true, false, not, ◌&&◌, List, ◌≡◌, ℕ, ◌≤◌, length, if◌then◌else◌}
-use Rattle.std.proofs.Math.Option.{Option, none, some}
+use Rattle.std.specs.Prelude.{Bool, true, false, not, ◌&&◌, List, ◌≡◌, ℕ, ◌≤◌, length, if◌then◌else◌, Option, None, Some}
 use Rattle.line.specs.Answer.{done, overlay}
 use Rattle.line.specs.Character.{printable}
 use Rattle.line.specs.Test.{all}
 use Rattle.journal.specs.Storage.{transactions, size_of, stored_in}
-use Rattle.admission.specs.Admission.{admitted_as}
 use Rattle.admission.specs.Content.{is_pager_id, admits}
-use Rattle.admission.specs.declared.Admitted.{Admitted}
 use Rattle.central.specs.Inner.{Readable, transactions_in}
 use Rattle.snpp.specs.Command as Lines
 use Rattle.snpp.specs.Reaction.{Answer, nothing, success, goodbye, unknown, order, badText, failed, Reaction, reacts, page_of}
@@ -23,14 +20,13 @@ use Rattle.snpp.specs.declared.state.Stage.{Stage}
 use Rattle.snpp.specs.declared.state.Stage.TheVariants.{Open, Entered, Closed}
 use Rattle.snpp.specs.declared.state.State.{State}
 
--- the command that the code found, with the text behind it
-abbrev pub command_of : Word.Command → List ℕ → Option Lines.Command
-command_of word.Page text = some (Lines.page text)
-command_of word.Message text = some (Lines.message text)
-command_of word.Send text = some Lines.send
-command_of word.Reset text = some Lines.reset
-command_of word.Quit text = some Lines.quit
-command_of word.Unknown text = none
+-- the command that the code found
+abbrev pub command_of : Word.Command → Lines.Command
+command_of (word.Page text) = Lines.page text.now
+command_of (word.Message text) = Lines.message text.now
+command_of word.Send = Lines.send
+command_of word.Reset = Lines.reset
+command_of word.Quit = Lines.quit
 
 -- what the code answers
 abbrev pub answer_of : Code.Answer → Answer
@@ -109,8 +105,7 @@ abbrev pub with_page : List ℕ → ℕ → List ℕ → List ℕ → List (List
 with_page buffer n pager text = transactions.put (transactions_in buffer n) (page_of pager text)
 
 -- a page is offered to that journal: its new length where the page is admitted, and what the buffer holds then
-pub record Offers (most : ℕ) (pagers : List ℕ) (n : ℕ) (pager text : List ℕ) (r : Admitted) (buffer buffer' : List ℕ) : Type 0 where
-  pub answers : admitted_as r ≡
-      done (if admits_page most pagers buffer n pager text then some (size_of (with_page buffer n pager text)) else none)
+pub record Offers (most : ℕ) (pagers : List ℕ) (n : ℕ) (pager text : List ℕ) (r : Option ℕ) (buffer buffer' : List ℕ) : Type 0 where
+  pub answers : r ≡ (if admits_page most pagers buffer n pager text then Some (size_of (with_page buffer n pager text)) else None)
   pub leaves : buffer' ≡
       stored_in (done (if admits_page most pagers buffer n pager text then with_page buffer n pager text else transactions_in buffer n)) buffer

@@ -1,6 +1,5 @@
 -- What the gateway does with a command: over messages, its session and a journal, whatever that is made of.
-use Rattle.std.specs.Prelude.{not, List, [], ◌∷◌, ◌++◌, ℕ, ◌+◌, ◌/◌, ◌%◌, if◌then◌else◌}
-use Rattle.std.proofs.Math.Option.{Option, none, some}
+use Rattle.std.specs.Prelude.{not, List, [], ◌∷◌, ◌++◌, ℕ, ◌+◌, ◌/◌, ◌%◌, if◌then◌else◌, Option, None, Some}
 use Rattle.line.specs.Character.{CR, LF, printable}
 use Rattle.line.specs.Test.{all}
 use Rattle.journal.specs.Storage.{Storage}
@@ -13,14 +12,14 @@ pub data Answer : Type 0 where
 
 -- RFC 1861's number of an answer; where nothing is answered there is none (R-15.2)
 abbrev pub answer_number : Answer → Option ℕ
-answer_number nothing = none
-answer_number ready = some 220
-answer_number goodbye = some 221
-answer_number success = some 250
-answer_number unknown = some 500
-answer_number order = some 503
-answer_number badText = some 550
-answer_number failed = some 554
+answer_number nothing = None
+answer_number ready = Some 220
+answer_number goodbye = Some 221
+answer_number success = Some 250
+answer_number unknown = Some 500
+answer_number order = Some 503
+answer_number badText = Some 550
+answer_number failed = Some 554
 
 -- a number of three digits, as they are written
 abbrev pub digits_of : ℕ → List ℕ
@@ -28,8 +27,8 @@ digits_of n = (0x30 + n / 100) ∷ (0x30 + n / 10 % 10) ∷ (0x30 + n % 10) ∷ 
 
 -- a number as an answer: with a space and CR LF behind it (R-15.2)
 abbrev pub numbered : Option ℕ → List ℕ
-numbered none = []
-numbered (some n) = digits_of n ++ SPACE ∷ CR ∷ LF ∷ []
+numbered None = []
+numbered (Some n) = digits_of n ++ SPACE ∷ CR ∷ LF ∷ []
 
 -- the bytes of an answer (R-15.2)
 abbrev pub answer_text : Answer → List ℕ
@@ -42,7 +41,7 @@ pub record Entry : Type 0 where
 
 -- nothing has
 abbrev pub empty : Entry
-empty = record { pager = none; message = none }
+empty = record { pager = None; message = None }
 
 -- a session: still going on, or over (R-15.3)
 pub data Session : Type 0 where
@@ -68,13 +67,13 @@ module _ {J : Type 0} where
   -- PAGE: 1 to 8 digits, and the latest counts; another text changes nothing (R-15.4)
   abbrev pub takes_pager : Entry → J → List ℕ → Reaction J
   takes_pager e journal text =
-      if is_pager_id text then goes_on (record { pager = some text; message = e.message }) journal success
+      if is_pager_id text then goes_on (record { pager = Some text; message = e.message }) journal success
       else goes_on e journal badText
 
   -- MESS with a right text, by the message that is there: a second one changes nothing (R-15.5)
   abbrev pub holds_message : Entry → J → List ℕ → Option (List ℕ) → Reaction J
-  holds_message e journal text none = goes_on (record { pager = e.pager; message = some text }) journal success
-  holds_message e journal text (some earlier) = goes_on e journal order
+  holds_message e journal text None = goes_on (record { pager = e.pager; message = Some text }) journal success
+  holds_message e journal text (Some earlier) = goes_on e journal order
 
   -- MESS: characters 20 to 7E or none; another text changes nothing, whether a message is there or not (R-15.5)
   abbrev pub takes_message : Entry → J → List ℕ → Reaction J
@@ -90,18 +89,18 @@ module _ {J : Type 0} (most : ℕ) (pagers : List ℕ) (store : Storage J) where
 
   -- SEND, by what has been entered: without both nothing changes (R-15.6)
   abbrev pub sends : Entry → J → Option (List ℕ) → Option (List ℕ) → Reaction J
-  sends e journal (some pager) (some text) = offers journal (page_of pager text)
-  sends e journal (some pager) none = goes_on e journal order
-  sends e journal none m = goes_on e journal order
+  sends e journal (Some pager) (Some text) = offers journal (page_of pager text)
+  sends e journal (Some pager) None = goes_on e journal order
+  sends e journal None m = goes_on e journal order
 
   -- what a session that goes on does with a command (R-15.3)
   abbrev pub follows : Entry → J → Option Command → Reaction J
-  follows e journal none = goes_on e journal unknown
-  follows e journal (some (page text)) = takes_pager e journal text
-  follows e journal (some (message text)) = takes_message e journal text
-  follows e journal (some send) = sends e journal e.pager e.message
-  follows e journal (some reset) = goes_on empty journal success
-  follows e journal (some quit) = record { next = closed; journal = journal; answer = goodbye }
+  follows e journal None = goes_on e journal unknown
+  follows e journal (Some (page text)) = takes_pager e journal text
+  follows e journal (Some (message text)) = takes_message e journal text
+  follows e journal (Some send) = sends e journal e.pager e.message
+  follows e journal (Some reset) = goes_on empty journal success
+  follows e journal (Some quit) = record { next = closed; journal = journal; answer = goodbye }
 
   -- what a session does with a command: nothing once it is over (R-15.3, R-15.7)
   unfoldable pub reacts : Session → J → Option Command → Reaction J

@@ -1,6 +1,6 @@
 -- A session as it is saved, and which saved states are in range.
-use Rattle.std.specs.Prelude.{Bool, true, false, ◌&&◌, List, [], ℕ, eqb, leb, length, take, drop, replicate, if◌then◌else◌}
-use Rattle.std.proofs.Math.Option.{Option, none, some, get_or}
+use Rattle.std.specs.Prelude.{Bool, true, false, ◌&&◌, List, [], ℕ, eqb, leb, length, take, drop, replicate, if◌then◌else◌, Option, None, Some}
+use Rattle.std.specs.Option.{unwrap_or}
 use Rattle.line.specs.Answer.{overlay}
 use Rattle.line.specs.Character.{printable, digit}
 use Rattle.line.specs.Test.{all}
@@ -19,8 +19,8 @@ no_text = replicate 2043 0
 
 -- the stage of a session that goes on: whether a message has been entered
 abbrev pub stage_of : Option (List ℕ) → Stage
-stage_of none = Open
-stage_of (some text) = Entered
+stage_of None = Open
+stage_of (Some text) = Entered
 
 -- an entry at a stage as it is saved: its texts at the start of the arrays, zeros behind them
 abbrev pub saved_at : Stage → List ℕ → List ℕ → State
@@ -29,12 +29,12 @@ saved_at stage pager text =
 
 -- a session as it is saved (R-15.8)
 abbrev pub saved : Session → State
-saved (ongoing e) = saved_at (stage_of e.message) (get_or e.pager []) (get_or e.message [])
+saved (ongoing e) = saved_at (stage_of e.message) (unwrap_or e.pager []) (unwrap_or e.message [])
 saved closed = saved_at Closed [] []
 
 -- the pager ID that a state holds: a pager ID has a digit
 abbrev pub pager_in : State → Option (List ℕ)
-pager_in s = if eqb s.digits 0 then none else some (take s.digits s.pager)
+pager_in s = if eqb s.digits 0 then None else Some (take s.digits s.pager)
 
 -- the message that a state holds
 abbrev pub text_in : State → List ℕ
@@ -42,9 +42,9 @@ text_in s = take s.length s.message
 
 -- the message at a stage: none until one has been entered
 abbrev pub message_at : Stage → List ℕ → Option (List ℕ)
-message_at Open text = none
-message_at Entered text = some text
-message_at Closed text = none
+message_at Open text = None
+message_at Entered text = Some text
+message_at Closed text = None
 
 -- what has been entered, as a state holds it
 abbrev pub entry_in : State → Entry

@@ -1,6 +1,6 @@
 -- One step of the gateway (document 02, wish 6): recognize, react, answer.
 use Rattle.std.specs.Prelude.{Bool, not, ◌&&◌, List, ◌≡◌, ℕ, leb, ltb, length, if◌then◌else◌}
-use Rattle.line.specs.Answer.{Outcome, done, refused, map_done, and_then, output, overlay, written_as}
+use Rattle.line.specs.Answer.{Outcome, done, refused, map_done, and_then, output, overlay, outcome_of}
 use Rattle.journal.specs.Storage.{transactions, decode_in, size_of, stored_in}
 use Rattle.central.specs.Step.{pagers_in_range}
 use Rattle.snpp.specs.Command.{recognized}
@@ -44,7 +44,7 @@ length_behind n (refused k) = n
 pub record Steps (o : Outcome (Reaction (List (List ℕ)))) (s : State) (n : ℕ) (r : Stepped)
     (buffer buffer' out out' : List ℕ) : Type 0 where
   -- the answer's count, or the refusal
-  pub answers : written_as r.outcome ≡ map_done (λ x. length (answer_text x.answer)) o
+  pub answers : outcome_of r.outcome ≡ map_done (λ x. length (answer_text x.answer)) o
   -- the state behind it
   pub state : r.state ≡ state_behind s o
   -- the journal's length behind it

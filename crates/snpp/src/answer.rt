@@ -1,11 +1,10 @@
 // What the gateway answers: number, space, CR LF.
-ghost use Rattle.std.proofs.Math.Option.{get_or};
 ghost use Rattle.std.specs.Prelude.{◌≡◌, ◌≤◌, length};
 ghost use Rattle.line.specs.Answer.{Wrote, copied, done};
 ghost use Rattle.snpp.specs.Inner.{answer_of};
 ghost use Rattle.snpp.specs.Reaction.{answer_number, answer_text, ready};
 
-use line::Written;
+use line::Refusal;
 use line::character::{CR, LF};
 use line::memory::copy;
 
@@ -26,7 +25,7 @@ pub enum Answer {
 pub const ANSWER: usize = 6;
 
 // What a client waits for before its first command: 220.
-pub fn greeting(out: &mut [u8]) -> Written
+pub fn greeting(out: &mut [u8]) -> Result<usize, Refusal>
     ensures { Wrote
         (copied (answer_text ready) (length out.old))
         result out.old out.new }
@@ -35,14 +34,13 @@ pub fn greeting(out: &mut [u8]) -> Written
 }
 
 // The bytes of an answer.
-pub(crate) fn put_answer(answer: Answer, out: &mut [u8]) -> Written
+pub(crate) fn put_answer(answer: Answer, out: &mut [u8]) -> Result<usize, Refusal>
     requires { 6 ≤ length out.old }
     ensures { Wrote (done (answer_text (answer_of answer))) result out.old out.new }
 {
-    let n = number(answer);
-    if n == 0 {
-        return Written::Count(0);
-    }
+    let Some(n) = number(answer) else {
+        return Ok(0);
+    };
     let text = [
         0x30 + (n / 100) as u8,
         0x30 + (n / 10 % 10) as u8,
@@ -54,17 +52,17 @@ pub(crate) fn put_answer(answer: Answer, out: &mut [u8]) -> Written
     copy(&text, out)
 }
 
-// RFC 1861's number of an answer, and 0 where nothing is answered.
-fn number(answer: Answer) -> usize
-    ensures { result ≡ get_or (answer_number (answer_of answer)) 0 }
+// RFC 1861's number of an answer; none where nothing is answered.
+fn number(answer: Answer) -> Option<usize>
+    ensures { result ≡ answer_number (answer_of answer) }
 {
     match answer {
-        Answer::Nothing => 0,
-        Answer::Success => 250,
-        Answer::Goodbye => 221,
-        Answer::Unknown => 500,
-        Answer::Order => 503,
-        Answer::BadText => 550,
-        Answer::Failed => 554,
+        Answer::Nothing => None,
+        Answer::Success => Some(250),
+        Answer::Goodbye => Some(221),
+        Answer::Unknown => Some(500),
+        Answer::Order => Some(503),
+        Answer::BadText => Some(550),
+        Answer::Failed => Some(554),
     }
 }

@@ -1,83 +1,65 @@
 // A line's command, in capitals, small letters or both.
-ghost use Rattle.std.specs.Prelude.{List, ◌≡◌, ℕ, drop};
-ghost use Rattle.snpp.specs.Command.{bare_command, recognized, text_command, to_capital};
+ghost use Rattle.std.specs.Prelude.{◌≡◌};
+ghost use Rattle.std.specs.Option.{option_map};
+ghost use Rattle.snpp.specs.Command.{bare_command, recognized, text_command};
 ghost use Rattle.snpp.specs.Inner.{command_of};
 
 use line::memory::is_same;
 
+// A command with its text.
 #[derive(Clone, Copy)]
-pub enum Command {
-    Page,
-    Message,
+pub enum Command<'a> {
+    Page(&'a [u8]),
+    Message(&'a [u8]),
     Send,
     Reset,
     Quit,
-    // Not understood.
-    Unknown,
 }
 
-// How many characters a command's word has; the text stands behind it and a space.
+// How many characters a command's word has.
 const WORD: usize = 4;
 
-pub(crate) const TEXT: usize = 5;
-
-// The command of a line with its ending off.
-pub(crate) fn recognize(line: &[u8]) -> Command
-    ensures { recognized line.now ≡ command_of result (drop 5 line.now) }
+// The command of a line with its ending off; none where it is not understood.
+pub(crate) fn recognize(line: &[u8]) -> Option<Command>
+    ensures { recognized line.now ≡ option_map command_of result }
 {
-    if line.len() < WORD {
-        return Command::Unknown;
-    }
-    let word = [
-        to_capital(line[0]),
-        to_capital(line[1]),
-        to_capital(line[2]),
-        to_capital(line[3]),
-    ];
-    if line.len() == WORD {
+    let (letters, rest) = line.split_first_chunk::<WORD>()?;
+    let mut word = *letters;
+    word.make_ascii_uppercase();
+    let Some((&first, text)) = rest.split_first() else {
         return bare(&word);
+    };
+    if first != b' ' {
+        return None;
     }
-    if line[WORD] != b' ' {
-        return Command::Unknown;
-    }
-    with_text(&word)
+    with_text(&word, text)
 }
 
 // A word with nothing behind it.
-fn bare(word: &[u8]) -> Command
-    ensures { (text : List ℕ) → bare_command word.now ≡ command_of result text }
+fn bare(word: &[u8]) -> Option<Command<'static>>
+    ensures { bare_command word.now ≡ option_map command_of result }
 {
     if is_same(word, b"SEND") {
-        return Command::Send;
+        return Some(Command::Send);
     }
     if is_same(word, b"RESE") {
-        return Command::Reset;
+        return Some(Command::Reset);
     }
     if is_same(word, b"QUIT") {
-        return Command::Quit;
+        return Some(Command::Quit);
     }
-    Command::Unknown
+    None
 }
 
 // A word with a text behind it.
-fn with_text(word: &[u8]) -> Command
-    ensures { (text : List ℕ) → text_command word.now text ≡ command_of result text }
+fn with_text<'a>(word: &[u8], text: &'a [u8]) -> Option<Command<'a>>
+    ensures { text_command word.now text.now ≡ option_map command_of result }
 {
     if is_same(word, b"PAGE") {
-        return Command::Page;
+        return Some(Command::Page(text));
     }
     if is_same(word, b"MESS") {
-        return Command::Message;
+        return Some(Command::Message(text));
     }
-    Command::Unknown
-}
-
-// A small letter as a capital; any other byte as it is.
-fn to_capital(c: u8) -> u8
-    ensures { result ≡ to_capital c }
-{
-    if (0x61 <= c) & (c <= 0x7A) {
-        return c - 0x20;
-    }
-    c
+    None
 }

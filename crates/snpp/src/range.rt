@@ -1,7 +1,6 @@
 // Whether settings and saved state are in range.
-ghost use Rattle.std.specs.Prelude.{◌≡◌, eqb};
+ghost use Rattle.std.specs.Prelude.{◌≡◌};
 ghost use Rattle.line.specs.Class.{member};
-ghost use Rattle.line.specs.Test.{all};
 ghost use Rattle.snpp.specs.Inner.{state_of};
 ghost use Rattle.snpp.specs.State.{fits, holds, in_range};
 ghost use Rattle.snpp.specs.Step.{settings_in_range};
@@ -9,6 +8,7 @@ ghost use Rattle.snpp.specs.Step.{settings_in_range};
 use crate::state::{Control, Settings, Stage};
 use central::range::LEAST_LONGEST;
 use line::character::{Class, are};
+use line::test::{Is, every};
 use line::transaction::MOST_INFORMATION;
 
 // The longest transaction is 3 to 2,000 characters.
@@ -22,13 +22,9 @@ pub fn settings_in_range(settings: Settings) -> bool
 pub(crate) fn in_range(control: Control, message: &[u8]) -> bool
     ensures { result ≡ in_range (state_of control message.now) }
 {
-    let pager = control.pager;
-    let digits = control.digits;
-    let length = control.length;
-    let stage = control.stage;
-    holds_text(&pager, digits, Class::Digit)
-        & holds_text(message, length, Class::Printable)
-        & has_lengths(stage, digits, length)
+    holds_text(&control.pager, control.digits, Class::Digit)
+        & holds_text(message, control.length, Class::Printable)
+        & has_lengths(control.stage, control.digits, control.length)
 }
 
 // So many characters of the class at the start of the array, and zeros behind them.
@@ -38,20 +34,8 @@ fn holds_text(array: &[u8], length: usize, class: Class) -> bool
     if array.len() < length {
         return false;
     }
-    are(&array[..length], class) & is_blank(&array[length..])
-}
-
-// Every byte is zero.
-fn is_blank(bytes: &[u8]) -> bool
-    ensures { result ≡ all (λ b. eqb b 0) bytes.now }
-{
-    let mut every = true;
-    let mut i = 0;
-    while i < bytes.len() {
-        every = every & (bytes[i] == 0);
-        i += 1;
-    }
-    every
+    let (text, rest) = array.split_at(length);
+    are(text, class) & every(rest, Is { byte: 0 })
 }
 
 // A pager ID of so many digits and a message of so many characters may be held at the stage.

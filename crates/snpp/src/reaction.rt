@@ -1,21 +1,19 @@
 // What the gateway does with a line, once it may be read.
-ghost use Rattle.std.specs.Prelude.{true, false, ◌≡◌, ◌≤◌};
-ghost use Rattle.std.proofs.Math.Option.{some};
+ghost use Rattle.std.specs.Prelude.{true, false, ◌≡◌, ◌≤◌, Some};
 ghost use Rattle.std.proofs.Math.ListN as ListN;
 ghost use Rattle.line.specs.Character.{printable};
 ghost use Rattle.line.specs.Test.{all};
 ghost use Rattle.admission.specs.Content.{is_pager_id};
 ghost use Rattle.central.specs.Inner.{Readable};
 ghost use Rattle.snpp.specs.Command.{recognized, send};
-ghost use Rattle.snpp.specs.Inner.{Does, Enters, Offers, Ready, emptied, is_entered, pager_taken, reacts_in, staying};
+ghost use Rattle.snpp.specs.Inner.{Does, Enters, Offers, Ready, emptied, pager_taken, reacts_in, staying};
 ghost use Rattle.snpp.specs.State.{is_closed, no_text};
 
 use crate::answer::Answer;
-use crate::command::{Command, TEXT, recognize};
+use crate::command::{Command, recognize};
 use crate::state::{Control, Settings, Stage};
-use admission::{Admitted, admit, is_pager_id};
+use admission::{admit, is_pager_id};
 use line::character::{CR, Class, are};
-use line::memory::copy;
 use line::transaction::MOST_INFORMATION;
 
 // The answer, the state but for the message itself, and the journal's length.
@@ -26,34 +24,38 @@ pub struct Reacted {
     pub journal: usize,
 }
 
+// What no step changes: the settings, and the pager list.
+#[derive(Clone, Copy)]
+pub struct Setup<'a> {
+    pub settings: Settings,
+    pub pagers: &'a [u32],
+}
+
 // What the gateway does with a line. After QUIT it does nothing.
 pub(crate) fn react(
     control: Control,
-    settings: Settings,
-    pagers: &[u32],
+    setup: Setup,
     journal: &mut [u8],
     length: usize,
     message: &mut [u8],
     line: &[u8],
 ) -> Reacted
-    requires { Ready settings control message.old journal.old length × (ListN.length line.now ≤ 2048) }
+    requires { Ready setup.settings control message.old journal.old length × (ListN.length line.now ≤ 2048) }
     ensures { Does
-        (reacts_in settings pagers.now control message.old journal.old length
+        (reacts_in setup.entry.settings setup.entry.pagers.now control message.old journal.old length
         (recognized line.now))
         result message.new journal.old journal.new }
 {
-    let stage = control.stage;
-    if is_closed(stage) {
+    if control.stage == Stage::Closed {
         return stay(control, Answer::Nothing, length);
     }
-    let command = recognize(line);
-    match command {
-        Command::Page => enter_pager(control, &line[TEXT..], length),
-        Command::Message => enter_message(control, &line[TEXT..], message, length),
-        Command::Send => send_page(control, settings, pagers, journal, length, message),
-        Command::Reset => forget(message, Stage::Open, Answer::Success, length),
-        Command::Quit => forget(message, Stage::Closed, Answer::Goodbye, length),
-        Command::Unknown => stay(control, Answer::Unknown, length),
+    match recognize(line) {
+        Some(Command::Page(text)) => enter_pager(control, text, length),
+        Some(Command::Message(text)) => enter_message(control, text, message, length),
+        Some(Command::Send) => send_page(control, setup, journal, length, message),
+        Some(Command::Reset) => forget(message, Stage::Open, Answer::Success, length),
+        Some(Command::Quit) => forget(message, Stage::Closed, Answer::Goodbye, length),
+        None => stay(control, Answer::Unknown, length),
     }
 }
 
@@ -65,13 +67,11 @@ fn enter_pager(control: Control, text: &[u8], journal: usize) -> Reacted
         return stay(control, Answer::BadText, journal);
     }
     let mut pager = [0u8; 8];
-    copy(text, &mut pager);
-    let stage = control.stage;
+    pager[..text.len()].copy_from_slice(text);
     let next = Control {
-        stage,
         pager,
         digits: text.len(),
-        length: control.length,
+        ..control
     };
     stay(next, Answer::Success, journal)
 }
@@ -84,17 +84,14 @@ fn enter_message(control: Control, text: &[u8], message: &mut [u8], journal: usi
     if !are(text, Class::Printable) {
         return stay(control, Answer::BadText, journal);
     }
-    let stage = control.stage;
-    if is_entered(stage) {
+    if control.stage == Stage::Entered {
         return stay(control, Answer::Order, journal);
     }
-    copy(text, message);
-    let pager = control.pager;
+    message[..text.len()].copy_from_slice(text);
     let next = Control {
         stage: Stage::Entered,
-        pager,
-        digits: control.digits,
         length: text.len(),
+        ..control
     };
     stay(next, Answer::Success, journal)
 }
@@ -102,40 +99,34 @@ fn enter_message(control: Control, text: &[u8], message: &mut [u8], journal: usi
 // SEND: with pager ID and message both are forgotten, whether the page is stored or not.
 fn send_page(
     control: Control,
-    settings: Settings,
-    pagers: &[u32],
+    setup: Setup,
     journal: &mut [u8],
     length: usize,
     message: &mut [u8],
 ) -> Reacted
-    requires { Ready settings control message.old journal.old length × (is_closed control.stage ≡ false) }
+    requires { Ready setup.settings control message.old journal.old length × (is_closed control.stage ≡ false) }
     ensures { Does
-        (reacts_in settings pagers.now control message.old journal.old length
-        (some send))
+        (reacts_in setup.entry.settings setup.entry.pagers.now control message.old journal.old length
+        (Some send))
         result message.new journal.old journal.new }
 {
-    let stage = control.stage;
-    let digits = control.digits;
-    if !is_entered(stage) | (digits == 0) {
+    if (control.stage != Stage::Entered) | (control.digits == 0) {
         return stay(control, Answer::Order, length);
     }
-    let pager = control.pager;
-    let end = control.length;
-    let admitted = offer(
-        &pager[..digits],
-        &message[..end],
-        settings.longest,
-        pagers,
+    let Some(n) = offer(
+        &control.pager[..control.digits],
+        &message[..control.length],
+        setup.settings.longest,
+        setup.pagers,
         journal,
         length,
-    );
-    let Admitted::Stored(n) = admitted else {
+    ) else {
         return forget(message, Stage::Open, Answer::Failed, length);
     };
     forget(message, Stage::Open, Answer::Success, n)
 }
 
-// A page goes into the journal as a transaction, where content and room admit it.
+// A page goes into the journal as a transaction, where content and room admit it: the journal's new length.
 fn offer(
     pager: &[u8],
     message: &[u8],
@@ -143,7 +134,7 @@ fn offer(
     pagers: &[u32],
     journal: &mut [u8],
     length: usize,
-) -> Admitted
+) -> Option<usize>
     requires { (longest ≤ 2000) × (is_pager_id pager.now ≡ true) × (all printable message.now ≡ true) ×
         (ListN.length message.now ≤ 2043) × Readable journal.old length }
     ensures { Offers longest pagers.now length pager.now message.now
@@ -152,14 +143,15 @@ fn offer(
     let k = pager.len();
     let n = k + message.len() + 2;
     if MOST_INFORMATION < n {
-        return Admitted::Rejected;
+        return None;
     }
     let mut info = [0u8; MOST_INFORMATION];
-    copy(pager, &mut info);
+    info[..k].copy_from_slice(pager);
     info[k] = CR;
-    copy(message, &mut info[k + 1..]);
+    info[k + 1..n - 1].copy_from_slice(message);
     info[n - 1] = CR;
-    admit(&info[..n], longest, pagers, journal, length)
+    // Page and journal are right, so nothing is refused.
+    admit(&info[..n], longest, pagers, journal, length).unwrap_or(None)
 }
 
 // A session in which nothing has been entered.
@@ -167,7 +159,7 @@ fn forget(message: &mut [u8], stage: Stage, answer: Answer, journal: usize) -> R
     requires { ListN.length message.old ≡ 2043 }
     ensures { (result ≡ emptied stage answer journal) × (message.new ≡ no_text) }
 {
-    clear(message);
+    message.fill(0);
     Reacted {
         answer,
         control: Control {
@@ -180,17 +172,6 @@ fn forget(message: &mut [u8], stage: Stage, answer: Answer, journal: usize) -> R
     }
 }
 
-// Zeros in all of it.
-fn clear(bytes: &mut [u8])
-    ensures { bytes.new ≡ ListN.replicate (ListN.length bytes.old) 0 }
-{
-    let mut i = 0;
-    while i < bytes.len() {
-        bytes[i] = 0;
-        i += 1;
-    }
-}
-
 // Nothing more changes.
 fn stay(control: Control, answer: Answer, journal: usize) -> Reacted
     ensures { result ≡ staying control answer journal }
@@ -199,25 +180,5 @@ fn stay(control: Control, answer: Answer, journal: usize) -> Reacted
         answer,
         control,
         journal,
-    }
-}
-
-fn is_closed(stage: Stage) -> bool
-    ensures { result ≡ is_closed stage }
-{
-    match stage {
-        Stage::Open => false,
-        Stage::Entered => false,
-        Stage::Closed => true,
-    }
-}
-
-fn is_entered(stage: Stage) -> bool
-    ensures { result ≡ is_entered stage }
-{
-    match stage {
-        Stage::Open => false,
-        Stage::Entered => true,
-        Stage::Closed => false,
     }
 }

@@ -1,5 +1,5 @@
 // The gateway's settings, its saved state, and what a step answers.
-use line::Written;
+use line::Refusal;
 
 #[derive(Clone, Copy)]
 pub struct Settings {
@@ -7,7 +7,7 @@ pub struct Settings {
     pub longest: usize,
 }
 
-#[derive(Clone, Copy)]
+#[derive(Clone, Copy, PartialEq, Eq)]
 pub enum Stage {
     // No message has been entered.
     Open,
@@ -20,10 +20,11 @@ pub enum Stage {
 #[derive(Clone, Copy)]
 pub struct State {
     pub stage: Stage,
-    // The pager ID that was entered last, and how many digits it has: none where it is none. Zeros stand behind it.
+    // The pager ID that was entered last, and how many digits it has. Zeros stand behind it.
     pub pager: [u8; 8],
+    // 0 where there is no pager ID: a saved record that C has, so no `Option`.
     pub digits: usize,
-    // The message and its length. Zeros stand behind it.
+    // The message and its length. Zeros stand behind it. There is no heap, so no `Vec`.
     pub message: [u8; 2043],
     pub length: usize,
 }
@@ -31,7 +32,8 @@ pub struct State {
 // The bytes put out, or the refusal; the state behind the step, and the journal's length.
 #[derive(Clone, Copy)]
 pub struct Stepped {
-    pub outcome: Written,
+    // Beside the state, not around it: a refusal hands the state back.
+    pub outcome: Result<usize, Refusal>,
     pub state: State,
     pub journal: usize,
 }

@@ -1,17 +1,17 @@
 // One step of the gateway, for one line with its ending off.
 ghost use Rattle.std.specs.Prelude.{◌≡◌};
 ghost use Rattle.std.proofs.Math.ListN as ListN;
-ghost use Rattle.line.specs.Answer.{checked_as, map_done};
+ghost use Rattle.line.specs.Answer.{map_done, outcome_of};
 ghost use Rattle.snpp.specs.Inner.{state_of};
 ghost use Rattle.snpp.specs.Step.{Steps, start_state, stepped, tested};
 
 use crate::answer::{ANSWER, put_answer};
 use crate::range::{in_range, settings_in_range};
-use crate::reaction::react;
+use crate::reaction::{Setup, react};
 use crate::state::{Control, Settings, Stage, State, Stepped};
 use central::range::pagers_in_range;
 use journal::buffer::check_in;
-use line::{Checked, Refusal, Written};
+use line::Refusal;
 
 // The longest line.
 pub const LINE: usize = 2048;
@@ -45,49 +45,37 @@ pub fn step(
         state length result journal.old journal.new out.old out.new }
 {
     let mut message = state.message;
-    let stage = state.stage;
     let pager = state.pager;
     let control = Control {
-        stage,
+        stage: state.stage,
         pager,
         digits: state.digits,
         length: state.length,
     };
+    let setup = Setup { settings, pagers };
     let tested = test(
         control,
-        settings,
-        pagers,
+        setup,
         journal,
         length,
         &message,
         line.len(),
         out.len(),
     );
-    if let Checked::Refused(refusal) = tested {
+    if let Err(refusal) = tested {
         return Stepped {
-            outcome: Written::Refused(refusal),
+            outcome: Err(refusal),
             state,
             journal: length,
         };
     }
-    let reacted = react(
-        control,
-        settings,
-        pagers,
-        journal,
-        length,
-        &mut message,
-        line,
-    );
-    let answer = reacted.answer;
+    let reacted = react(control, setup, journal, length, &mut message, line);
     let next = reacted.control;
-    let outcome = put_answer(answer, out);
-    let stage = next.stage;
     let pager = next.pager;
     Stepped {
-        outcome,
+        outcome: put_answer(reacted.answer, out),
         state: State {
-            stage,
+            stage: next.stage,
             pager,
             digits: next.digits,
             message,
@@ -100,31 +88,30 @@ pub fn step(
 // How many transactions the journal has, or why the step is refused.
 fn test(
     control: Control,
-    settings: Settings,
-    pagers: &[u32],
+    setup: Setup,
     journal: &[u8],
     length: usize,
     message: &[u8],
     size: usize,
     room: usize,
-) -> Checked
-    ensures { checked_as result ≡
+) -> Result<usize, Refusal>
+    ensures { outcome_of result ≡
         map_done ListN.length
-        (tested (state_of control message.now) settings pagers.now journal.now length
+        (tested (state_of control message.now) setup.entry.settings setup.entry.pagers.now journal.now length
         size room) }
 {
-    if !(settings_in_range(settings) & pagers_in_range(pagers) & in_range(control, message)) {
-        return Checked::Refused(Refusal::Range);
+    if !(settings_in_range(setup.settings)
+        & pagers_in_range(setup.pagers)
+        & in_range(control, message))
+    {
+        return Err(Refusal::Range);
     }
     if room < ANSWER {
-        return Checked::Refused(Refusal::Size);
+        return Err(Refusal::Size);
     }
-    let checked = check_in(journal, length);
-    if let Checked::Refused(refusal) = checked {
-        return Checked::Refused(refusal);
-    }
+    let count = check_in(journal, length)?;
     if LINE < size {
-        return Checked::Refused(Refusal::Length);
+        return Err(Refusal::Length);
     }
-    checked
+    Ok(count)
 }

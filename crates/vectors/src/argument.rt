@@ -7,7 +7,6 @@ ghost use Rattle.std.specs.Prelude.{◌≡◌, ◌<◌, length};
 
 use device::Confirmation;
 use segmentation::Way;
-use std::num::{wrapping_add_u8, wrapping_add_u16};
 
 // Where the table ends.
 const TABLE: u16 = 64;
@@ -90,15 +89,12 @@ pub(crate) fn number_at(memory: &[u8], at: usize) -> usize
     requires { at < 65536 }
     ensures { result < 65536 }
 {
-    byte(memory, at) as usize * 256 + byte(memory, at + 1) as usize
+    usize::from(u16::from_be_bytes([byte(memory, at), byte(memory, at + 1)]))
 }
 
 // The byte at a place; 0 behind the end.
 pub(crate) fn byte(memory: &[u8], at: usize) -> u8 {
-    if memory.len() <= at {
-        return 0;
-    }
-    memory[at]
+    memory.get(at).copied().unwrap_or(0)
 }
 
 // Puts a line into memory as a call.
@@ -110,6 +106,7 @@ pub(crate) fn decode(line: &[u8], memory: &mut [u8])
         end: TABLE,
     };
     let mut i = 0;
+    // From run to run, by the characters of each: no `for`.
     while i < line.len() {
         let run = run_of(&line[i..]);
         place = put(run, place, memory);
@@ -122,17 +119,14 @@ fn put(run: Run, place: Place, memory: &mut [u8]) -> Place
     requires { 65536 ≡ length memory.old }
 {
     let byte = run.byte;
-    let word = wrapping_add_u8(place.word, run.words);
+    let word = place.word.wrapping_add(run.words);
     let mut end = place.end;
-    let mut left = run.count;
-    while 0 < left {
+    for _ in 0..run.count {
         memory[end as usize] = byte;
-        end = wrapping_add_u16(end, 1);
-        left -= 1;
+        end = end.wrapping_add(1);
     }
     let at = word as usize * 2 + 2;
-    memory[at] = (end / 256) as u8;
-    memory[at + 1] = (end % 256) as u8;
+    memory[at..at + 2].copy_from_slice(&end.to_be_bytes());
     memory[COUNT] = word;
     Place { word, end }
 }
@@ -161,7 +155,7 @@ fn run_of(text: &[u8]) -> Run
     if byte(text, 2) == b'*' {
         return Run {
             byte: pair(text, 0),
-            count: pair(text, 3) as u16 * 256 + pair(text, 5) as u16,
+            count: u16::from_be_bytes([pair(text, 3), pair(text, 5)]),
             length: 7,
             words: 0,
         };

@@ -2,7 +2,7 @@
 ghost use Rattle.std.specs.Prelude.{◌≡◌, ◌<◌, length};
 
 use crate::answer::{
-    print_bytes, print_counted, print_digest, print_number, print_refusal, reply_name,
+    print_bytes, print_count, print_counted, print_digest, print_number, print_refusal, reply_name,
 };
 use crate::argument::{COUNT, byte, letter_of, number, part, text, way_of, word};
 use crate::driver::{print_driver, print_settled, transactions};
@@ -13,24 +13,22 @@ use crate::names;
 use crate::names::{COMMA, NOTHING, SPACE, say};
 use crate::remarks::print_remarks;
 use crate::runs::print_run;
+use block::Ending;
 use block::checksum::{add, check_characters, checksum, sum_characters};
 use block::frame::information;
-use block::{Ending, Reading};
 use device::Verdict;
-use device::state::verdict_number;
-use journal::Step;
+use journal::Place;
 use journal::buffer::BUFFER;
 use journal::cursor::RECORDS;
 use journal::held::step_at;
 use journal::record::{newest, oldest};
+use line::Refusal;
 use line::memory::copy;
-use line::{Checked, Written};
-use reassembly::{Reassembled, Reassembly, reassemble};
+use reassembly::{Reassembly, reassemble};
 use reply::remarks::read_remarks;
 use segmentation::{Way, block_count, write_segment, write_segments};
 use std::io;
 use std::io::Write;
-use std::num::wrapping_add_usize;
 
 // What an output holds before a step.
 const FILLER: u8 = 0xA5;
@@ -55,7 +53,7 @@ pub(crate) fn print_answer<W: Write>(to: &mut W, call: &[u8]) -> io::Result<()> 
         b'y' => say(to, reply_name(reply::read(text))),
         b'h' => print_remarks(to, NOTHING, read_remarks(text)),
         b'j' => print_reassembly(to, call),
-        b'k' => print_check(to, text),
+        b'k' => print_count(to, journal::record::check(text)),
         b'v' => print_walk(to, text),
         b'n' => print_bytes(to, NOTHING, newest(text, number(call, 1))),
         b'o' => print_bytes(to, NOTHING, oldest(text, number(call, 1))),
@@ -70,7 +68,7 @@ fn lend<W: Write>(to: &mut W, call: &[u8]) -> io::Result<()> {
     let room = loan.room;
     let mut memory = filled(0);
     let mut out = filled(loan.filler);
-    copy(word(call, loan.word), &mut memory);
+    let _ = copy(word(call, loan.word), &mut memory);
     let numbers = word(call, 4);
     let pagers = list_pagers(numbers);
     let n = numbers.len() / 4 % (PAGERS + 1);
@@ -123,7 +121,7 @@ fn loan_of(call: &[u8]) -> Loan
             size: 512,
             word: 0,
             room: transactions(call),
-            filler: verdict_number(Verdict::Unsent),
+            filler: u8::from(Verdict::Unsent),
         },
         b'e' => output_of(512),
         b'g' | b'x' => output_of(number(call, 8)),
@@ -187,17 +185,17 @@ fn print_output<W: Write>(to: &mut W, call: &[u8], memory: &mut [u8]) -> io::Res
 pub(crate) fn print_outcome<W: Write>(
     to: &mut W,
     call: &[u8],
-    outcome: Written,
+    outcome: Result<usize, Refusal>,
     memory: &[u8],
 ) -> io::Result<()> {
     match outcome {
-        Written::Count(n) => print_written(to, call, part(memory, 0, n)),
-        Written::Refused(refusal) => print_refusal(to, refusal),
+        Ok(n) => print_written(to, call, part(memory, 0, n)),
+        Err(refusal) => print_refusal(to, refusal),
     }
 }
 
 // The call of a writer.
-fn write(call: &[u8], text: &[u8], memory: &mut [u8]) -> Written {
+fn write(call: &[u8], text: &[u8], memory: &mut [u8]) -> Result<usize, Refusal> {
     match letter_of(call) {
         b'p' => line::parity::set_parity(text, memory),
         b'q' => line::parity::clear_parity(text, memory),
@@ -225,7 +223,7 @@ fn print_written<W: Write>(to: &mut W, call: &[u8], written: &[u8]) -> io::Resul
 }
 
 // Blocks: of whole fields by their digest, filled ones byte for byte.
-fn print_blocks<W: Write>(to: &mut W, before: u8, way: Way, blocks: &[u8]) -> io::Result<()> {
+fn print_blocks<W: Write>(to: &mut W, before: &str, way: Way, blocks: &[u8]) -> io::Result<()> {
     match way {
         Way::WholeFields => print_digest(to, before, blocks),
         Way::Filled => print_counted(to, before, blocks),
@@ -244,9 +242,7 @@ fn print_checksum<W: Write>(to: &mut W, text: &[u8]) -> io::Result<()> {
 fn print_sums<W: Write>(to: &mut W, call: &[u8]) -> io::Result<()> {
     let count = byte(call, COUNT);
     let mut sum = number(call, 1) as u16;
-    let mut index = 1;
-    while index < count {
-        index += 1;
+    for index in 2..=count {
         sum = add_piece(sum, word(call, index));
         print_number(to, NOTHING, sum as usize)?;
         say(to, SPACE)?;
@@ -258,24 +254,22 @@ fn print_sums<W: Write>(to: &mut W, call: &[u8]) -> io::Result<()> {
 // The sum with a piece more, a character at a time.
 fn add_piece(sum: u16, piece: &[u8]) -> u16 {
     let mut sum = sum;
-    let mut i = 0;
-    while i < piece.len() {
-        sum = add(sum, piece[i]);
-        i += 1;
+    for &character in piece {
+        sum = add(sum, character);
     }
     sum
 }
 
 // The ending and the information of the block that the text is.
 fn print_block<W: Write>(to: &mut W, text: &[u8]) -> io::Result<()> {
-    let reading = block::frame::read(text);
-    match reading {
-        Reading::Block(ending) => print_counted(to, ending_name(ending), information(text)),
-        Reading::Refused(refusal) => print_refusal(to, refusal),
+    match block::frame::read(text) {
+        Ok(ending) => print_counted(to, ending_name(ending), information(text)),
+        Err(refusal) => print_refusal(to, refusal),
     }
 }
 
-fn ending_name(ending: Ending) -> u8 {
+// A word of the calls' file, which block does not know; a `Display` for block's enum can't stand here.
+fn ending_name(ending: Ending) -> &'static str {
     match ending {
         Ending::Etx => names::ETX,
         Ending::Etb => names::ETB,
@@ -283,7 +277,7 @@ fn ending_name(ending: Ending) -> u8 {
     }
 }
 
-// The ending that the second argument is.
+// The ending that the second argument is: a letter of that file, as `ending_name`; nor can a `From`.
 fn ending_of(call: &[u8]) -> Ending {
     match byte(word(call, 2), 0) {
         b'x' => Ending::Etx,
@@ -298,12 +292,10 @@ fn print_reassembly<W: Write>(to: &mut W, call: &[u8]) -> io::Result<()> {
     let mut memory = [0; 2000];
     let count = byte(call, COUNT);
     let mut state = reassembly::start();
-    let mut index = 0;
-    while index < count {
-        if 0 < index {
+    for index in 1..=count {
+        if 1 < index {
             say(to, COMMA)?;
         }
-        index += 1;
         state = join(to, word(call, index), state, &mut memory)?;
     }
     print_bytes(to, SPACE, part(&memory, 0, state.length))
@@ -316,9 +308,8 @@ fn join<W: Write>(
     state: Reassembly,
     memory: &mut [u8],
 ) -> io::Result<Reassembly> {
-    let joined = reassemble(state, block, memory);
-    match joined {
-        Reassembled::Next(next) => {
+    match reassemble(state, block, memory) {
+        Ok(next) => {
             print_number(to, NOTHING, next.length)?;
             say(
                 to,
@@ -330,49 +321,42 @@ fn join<W: Write>(
             )?;
             Ok(next)
         }
-        Reassembled::Refused(refusal) => {
+        Err(refusal) => {
             print_refusal(to, refusal)?;
             Ok(state)
         }
     }
 }
 
-// The number of records of the journal that the text is.
-fn print_check<W: Write>(to: &mut W, text: &[u8]) -> io::Result<()> {
-    let checked = journal::record::check(text);
-    match checked {
-        Checked::Count(n) => print_number(to, NOTHING, n),
-        Checked::Refused(refusal) => print_refusal(to, refusal),
-    }
-}
-
 // The records of the journal that the text is, from the newest back, as the cursor that holds it
 // meets them; and how the walk ends.
 fn print_walk<W: Write>(to: &mut W, text: &[u8]) -> io::Result<()> {
-    let mut index = 0;
-    while index <= RECORDS {
+    for index in 0..=RECORDS {
         if !print_place(to, text, step_at(text, index))? {
             return Ok(());
         }
-        index += 1;
     }
     Ok(())
 }
 
 // The record that a walk stands at, or why it has ended; and whether it goes on.
-fn print_place<W: Write>(to: &mut W, journal: &[u8], at: Step) -> io::Result<bool> {
+fn print_place<W: Write>(
+    to: &mut W,
+    journal: &[u8],
+    at: Result<Option<Place>, Refusal>,
+) -> io::Result<bool> {
     match at {
-        Step::Record(place) => {
-            let end = wrapping_add_usize(place.start, place.length);
+        Ok(Some(place)) => {
+            let end = place.start.wrapping_add(place.length);
             print_bytes(to, NOTHING, part(journal, place.start, end))?;
             say(to, SPACE)?;
             Ok(true)
         }
-        Step::End => {
+        Ok(None) => {
             say(to, names::END)?;
             Ok(false)
         }
-        Step::Refused(refusal) => {
+        Err(refusal) => {
             print_refusal(to, refusal)?;
             Ok(false)
         }

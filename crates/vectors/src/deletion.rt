@@ -1,15 +1,13 @@
 // The calls on deletions: each from the state and the journal that the call gives.
-use crate::answer::{print_number, print_refusal};
+use crate::answer::{print_count, print_number};
 use crate::argument::{COUNT, byte, word};
 use crate::ends::{saved_central, stage_name};
 use crate::names::{NOTHING, SPACE, TIMES, say};
 use central::step::{control_of, join};
 use central::{State, Stepped};
-use line::Written;
 use line::memory::is_same;
 use std::io;
 use std::io::Write;
-use std::num::{wrapping_add_usize, wrapping_sub_usize};
 
 // Which argument the bytes at the start of the journal's buffer are.
 const JOURNAL: u8 = 5;
@@ -30,11 +28,9 @@ pub(crate) fn print_deletions<W: Write>(
     journal: &mut [u8],
 ) -> io::Result<()> {
     let count = byte(call, COUNT);
-    let mut index = LENGTH;
-    while index < count {
-        say(to, (LENGTH < index) as u8)?;
-        index += 1;
-        print_deletion(to, call, word(call, index), journal)?;
+    for index in LENGTH..count {
+        say(to, if LENGTH < index { SPACE } else { NOTHING })?;
+        print_deletion(to, call, word(call, index + 1), journal)?;
     }
     Ok(())
 }
@@ -58,19 +54,14 @@ fn print_deletion<W: Write>(
 
 // Lends the buffer anew.
 fn lay(begin: &[u8], journal: &mut [u8]) {
-    let mut i = 0;
-    while i < journal.len() {
-        journal[i] = lent(begin, i);
-        i += 1;
+    for (i, place) in journal.iter_mut().enumerate() {
+        *place = lent(begin, i);
     }
 }
 
 // The byte that is lent at a place: behind the bytes that the call gives, such as tell places apart.
 fn lent(begin: &[u8], at: usize) -> u8 {
-    if at < begin.len() {
-        return begin[at];
-    }
-    (at % 251) as u8
+    begin.get(at).copied().unwrap_or((at % 251) as u8)
 }
 
 // The deletion that the first byte names, by place or by pager; a capital letter makes it beside lent
@@ -93,19 +84,10 @@ fn delete_by(deletion: &[u8], state: State, journal: &mut [u8]) -> Stepped {
 // The number behind the first byte, high first.
 fn wide(deletion: &[u8]) -> usize {
     let mut n = 0;
-    let mut i = 1;
-    while i < deletion.len() {
-        n = n % 0x100000000000000 * 256 + byte(deletion, i) as usize;
-        i += 1;
+    for &b in deletion.iter().skip(1) {
+        n = n % 0x100000000000000 * 256 + b as usize;
     }
     n
-}
-
-fn print_count<W: Write>(to: &mut W, outcome: Written) -> io::Result<()> {
-    match outcome {
-        Written::Count(n) => print_number(to, NOTHING, n),
-        Written::Refused(refusal) => print_refusal(to, refusal),
-    }
 }
 
 // The stage, the failures, the length of what is unfinished, whether its memory is the same as before,
@@ -125,6 +107,7 @@ fn print_state<W: Write>(to: &mut W, before: State, state: State) -> io::Result<
 // many.
 fn print_change<W: Write>(to: &mut W, begin: &[u8], journal: &[u8]) -> io::Result<()> {
     let mut from = 0;
+    // From run to run, by its bytes: no `for`.
     while from < journal.len() {
         let next = print_run(
             to,
@@ -142,10 +125,10 @@ fn print_change<W: Write>(to: &mut W, begin: &[u8], journal: &[u8]) -> io::Resul
 
 // The bytes of a kind between two places, or the first of them where they are few; where the rest begins.
 fn print_run<W: Write>(to: &mut W, byte: u8, from: usize, end: usize) -> io::Result<usize> {
-    let count = wrapping_sub_usize(end, from);
+    let count = end.wrapping_sub(from);
     write!(to, "{byte:02x}")?;
     if count <= FEW {
-        return Ok(wrapping_add_usize(from, 1));
+        return Ok(from.wrapping_add(1));
     }
     say(to, TIMES)?;
     write!(to, "{count:04x}")?;
@@ -155,14 +138,12 @@ fn print_run<W: Write>(to: &mut W, byte: u8, from: usize, end: usize) -> io::Res
 // Where the bytes of a kind that begin at a place end.
 fn run_end(begin: &[u8], journal: &[u8], from: usize) -> usize {
     let kind = turned(begin, journal, from);
-    let mut end = from;
-    while end < journal.len() {
+    for end in from..journal.len() {
         if turned(begin, journal, end) != kind {
             return end;
         }
-        end += 1;
     }
-    end
+    journal.len()
 }
 
 // A byte of the buffer, XORed with the one that was lent: 0 where it is the same.

@@ -8,10 +8,8 @@ use crate::ends::{JOB, begin, device_settings};
 use crate::names;
 use crate::names::{NOTHING, SPACE, say};
 use device::settling::settle;
-use device::state::verdict_number;
 use device::{Given, Standing};
 use journal::record::check;
-use line::answer::checked_count;
 use std::io;
 use std::io::Write;
 
@@ -19,7 +17,7 @@ use std::io::Write;
 pub(crate) fn transactions(call: &[u8]) -> usize
     ensures { result < 65536 }
 {
-    checked_count(check(word(call, JOB))) % 65536
+    check(word(call, JOB)).unwrap_or(0) % 65536
 }
 
 // How the accepted verdicts stand behind each reply, or why the entry device does not start; and all
@@ -33,10 +31,8 @@ pub(crate) fn print_driver<W: Write>(
     let count = byte(call, COUNT);
     let begun = begin(to, call, string)?;
     let mut state = begun.state;
-    let mut index = begun.before;
-    while index < count {
-        index += 1;
-        state = drive(to, call, word(call, index), state, string, verdicts)?;
+    for index in begun.before..count {
+        state = drive(to, call, word(call, index + 1), state, string, verdicts)?;
     }
     print_bytes(to, SPACE, verdicts)
 }
@@ -61,18 +57,17 @@ fn drive<W: Write>(
 }
 
 // A verdict that is given is put in its place.
-fn note(given: Given, verdicts: &mut [u8]) {
-    match given {
-        Given::Verdict(transaction, verdict) => {
-            if transaction < verdicts.len() {
-                verdicts[transaction] = verdict_number(verdict);
-            }
-        }
-        Given::Nothing => {}
+fn note(given: Option<Given>, verdicts: &mut [u8]) {
+    let Some(given) = given else {
+        return;
+    };
+    if given.transaction < verdicts.len() {
+        verdicts[given.transaction] = u8::from(given.verdict);
     }
 }
 
-fn standing_name(standing: Standing) -> u8 {
+// A word of the calls' file, which device does not know; a `Display` for device's enum can't stand here.
+fn standing_name(standing: Standing) -> &'static str {
     match standing {
         Standing::Open => names::OPEN,
         Standing::Confirmed => names::CONFIRMED,
@@ -90,6 +85,7 @@ pub(crate) fn print_settled<W: Write>(
     print_bytes(to, NOTHING, memory)
 }
 
+// A letter of that file, as `standing_name`; nor can a `From`.
 fn standing_of(letter: u8) -> Standing {
     match letter {
         b'o' => Standing::Open,

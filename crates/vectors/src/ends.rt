@@ -1,22 +1,17 @@
 // The calls on the two ends of the line: strings played to the central, replies played to the entry
 // device; from the start, or from the state that the call gives.
 use crate::answer::{print_digest, print_number, reply_name};
-use crate::argument::{
-    COUNT, byte, confirmation_of, letter_of, number, number_at, part, way_of, word,
-};
+use crate::argument::{COUNT, byte, confirmation_of, letter_of, number, part, way_of, word};
 use crate::calls::print_outcome;
 use crate::names;
 use crate::names::{COMMA, NOTHING, SPACE, say};
 use crate::remarks::print_reported;
 use central::Stage;
-use device::state::verdict_number;
 use device::{Given, Place, Report, Step};
 use line::Password;
-use line::answer::code;
 use line::memory::copy;
 use std::io;
 use std::io::Write;
-use std::num::wrapping_add_u8;
 
 // Which argument the journal is: the last before the strings, or before the central's state.
 const JOURNAL: u8 = 5;
@@ -33,9 +28,6 @@ pub(crate) const JOB: u8 = 3;
 // Which argument is the last before the replies, where the device's state is given.
 const DEVICE: u8 = 8;
 
-// Behind every argument: a call that is refused takes no reply.
-const ALL: u8 = 255;
-
 // Room for pager numbers, one more than a list may have.
 pub(crate) const PAGERS: usize = 1001;
 
@@ -51,11 +43,9 @@ struct Heard {
 // The pager list in the bytes, four for each number.
 pub(crate) fn list_pagers(numbers: &[u8]) -> [u32; PAGERS] {
     let mut pagers = [0; PAGERS];
-    let mut i = 0;
-    while i < PAGERS {
+    for (i, pager) in pagers.iter_mut().enumerate() {
         let at = i * 4;
-        pagers[i] = (number_at(numbers, at) * 65536 + number_at(numbers, at + 2)) as u32;
-        i += 1;
+        *pager = u32::from_be_bytes(std::array::from_fn(|j| byte(numbers, at + j)));
     }
     pagers
 }
@@ -72,11 +62,17 @@ pub(crate) fn print_conversation<W: Write>(
     let heard = first_heard(call);
     let before = heard.before;
     let mut state = heard.state;
-    let mut index = before;
-    while index < count {
-        say(to, (before < index) as u8)?;
-        index += 1;
-        state = hear(to, call, word(call, index), state, pagers, journal, answer)?;
+    for index in before..count {
+        say(to, if before < index { SPACE } else { NOTHING })?;
+        state = hear(
+            to,
+            call,
+            word(call, index + 1),
+            state,
+            pagers,
+            journal,
+            answer,
+        )?;
     }
     print_central(to, call, state, journal, answer)
 }
@@ -100,16 +96,17 @@ fn first_heard(call: &[u8]) -> Heard {
 // The state that five arguments are, the stage the first of them.
 pub(crate) fn saved_central(call: &[u8], stage: u8) -> central::State {
     let mut pending = [0; 2000];
-    copy(word(call, wrapping_add_u8(stage, 2)), &mut pending);
+    let _ = copy(word(call, stage.wrapping_add(2)), &mut pending);
     central::State {
         stage: stage_of(byte(word(call, stage), 0)),
-        failures: number(call, wrapping_add_u8(stage, 1)),
+        failures: number(call, stage.wrapping_add(1)),
         pending,
-        length: number(call, wrapping_add_u8(stage, 3)),
-        journal: number(call, wrapping_add_u8(stage, 4)),
+        length: number(call, stage.wrapping_add(3)),
+        journal: number(call, stage.wrapping_add(4)),
     }
 }
 
+// A letter of the calls' file, which central does not know; a `From` for central's enum can't stand here.
 fn stage_of(letter: u8) -> Stage {
     match letter {
         b'i' => Stage::Idle,
@@ -131,7 +128,7 @@ fn hear<W: Write>(
     answer: &mut [u8],
 ) -> io::Result<central::State> {
     let settings = central_settings(call);
-    if (string.len() == 2) & (number_at(string, 0) == 0xFFFF) {
+    if matches!(string, [0xFF, 0xFF]) {
         let dropped = central::step::hang_up(state, settings);
         let outcome = dropped.outcome;
         print_outcome(to, call, outcome, string)?;
@@ -155,14 +152,7 @@ pub(crate) fn central_settings(call: &[u8]) -> central::Settings {
 // A password: where it is too long, its length says so.
 fn password(text: &[u8]) -> Password {
     Password {
-        characters: [
-            byte(text, 0),
-            byte(text, 1),
-            byte(text, 2),
-            byte(text, 3),
-            byte(text, 4),
-            byte(text, 5),
-        ],
+        characters: std::array::from_fn(|i| byte(text, i)),
         length: text.len(),
     }
 }
@@ -190,7 +180,8 @@ fn print_central<W: Write>(
     Ok(())
 }
 
-pub(crate) fn stage_name(stage: Stage) -> u8 {
+// A word of the calls' file, as `stage_of`; nor can a `Display`.
+pub(crate) fn stage_name(stage: Stage) -> &'static str {
     match stage {
         Stage::Idle => names::IDLE,
         Stage::Logon => names::LOGON,
@@ -214,10 +205,8 @@ pub(crate) fn print_play<W: Write>(to: &mut W, call: &[u8], string: &mut [u8]) -
     let count = byte(call, COUNT);
     let begun = begin(to, call, string)?;
     let mut state = begun.state;
-    let mut index = begun.before;
-    while index < count {
-        index += 1;
-        state = take(to, call, word(call, index), state, string)?;
+    for index in begun.before..count {
+        state = take(to, call, word(call, index + 1), state, string)?;
     }
     if letter_of(call) == b'g' {
         print_device(to, state)?;
@@ -240,7 +229,12 @@ pub(crate) fn begin<W: Write>(to: &mut W, call: &[u8], string: &mut [u8]) -> io:
     if letter_of(call) == b'g' {
         return Ok(saved_device(call));
     }
-    let before = if code(outcome) == 0 { JOB } else { ALL };
+    // A call that is refused takes no reply.
+    let before = if outcome.is_ok() {
+        JOB
+    } else {
+        byte(call, COUNT)
+    };
     Ok(Begun { state, before })
 }
 
@@ -270,7 +264,7 @@ fn saved_device(call: &[u8]) -> Begun {
 pub(crate) fn device_settings(call: &[u8], index: u8) -> device::Settings {
     device::Settings {
         password: password(word(call, index)),
-        retries: number(call, wrapping_add_u8(index, 1)),
+        retries: number(call, index.wrapping_add(1)),
         way: way_of(call),
         confirmation: confirmation_of(call),
     }
@@ -300,13 +294,13 @@ fn take<W: Write>(
 }
 
 // The verdict that a step gives, or the reply to the close that it reports, or `-`.
-fn print_given<W: Write>(to: &mut W, given: Given, report: Report) -> io::Result<()> {
+fn print_given<W: Write>(to: &mut W, given: Option<Given>, report: Report) -> io::Result<()> {
     match given {
-        Given::Verdict(transaction, verdict) => {
-            print_number(to, COMMA, transaction)?;
-            print_number(to, names::EQUALS, verdict_number(verdict) as usize)?;
+        Some(given) => {
+            print_number(to, COMMA, given.transaction)?;
+            print_number(to, names::EQUALS, u8::from(given.verdict) as usize)?;
         }
-        Given::Nothing => match report {
+        None => match report {
             Report::Close(reply) => {
                 say(to, names::CLOSED)?;
                 say(to, reply_name(reply))?;
@@ -329,7 +323,7 @@ fn print_device<W: Write>(to: &mut W, state: device::State) -> io::Result<()> {
     }
 }
 
-fn print_place<W: Write>(to: &mut W, name: u8, place: Place) -> io::Result<()> {
+fn print_place<W: Write>(to: &mut W, name: &str, place: Place) -> io::Result<()> {
     print_number(to, name, place.transaction)?;
     print_number(to, SPACE, place.block)?;
     print_number(to, SPACE, place.attempts)

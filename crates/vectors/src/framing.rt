@@ -4,11 +4,11 @@ use crate::answer::{print_bytes, print_digest, print_number, print_refusal};
 use crate::argument::{COUNT, byte, number, part, word};
 use crate::calls::print_outcome;
 use crate::names::{COMMA, NOTHING, PART, SPACE, say};
-use framer::{Framed, Framer};
+use framer::Framer;
+use line::Refusal;
 use line::memory::copy;
 use std::io;
 use std::io::Write;
-use std::num::wrapping_add_usize;
 
 // Which argument the size of the output is: the last before the pieces.
 pub(crate) const ROOM: u8 = 3;
@@ -17,10 +17,8 @@ pub(crate) const ROOM: u8 = 3;
 pub(crate) fn print_framing<W: Write>(to: &mut W, call: &[u8], out: &mut [u8]) -> io::Result<()> {
     let count = byte(call, COUNT);
     let mut state = saved_framer(call);
-    let mut index = ROOM;
-    while index < count {
-        index += 1;
-        state = feed_piece(to, word(call, index), state, out)?;
+    for index in ROOM..count {
+        state = feed_piece(to, word(call, index + 1), state, out)?;
     }
     print_digest(to, NOTHING, out)?;
     print_flush(to, call, state, out)?;
@@ -30,7 +28,7 @@ pub(crate) fn print_framing<W: Write>(to: &mut W, call: &[u8], out: &mut [u8]) -
 // The state that the first two arguments are.
 fn saved_framer(call: &[u8]) -> Framer {
     let mut held = [0; 256];
-    copy(word(call, 1), &mut held);
+    let _ = copy(word(call, 1), &mut held);
     Framer {
         held,
         length: number(call, 2),
@@ -46,11 +44,15 @@ fn feed_piece<W: Write>(
 ) -> io::Result<Framer> {
     let mut state = saved;
     let mut from = 0;
+    // By the bytes that each feed uses: no `for`.
     loop {
         let fed = framer::feed(state, part(piece, from, piece.len()), out);
         let outcome = fed.outcome;
         state = fed.state;
-        let next = wrapping_add_usize(from, print_fed(to, fed.used, outcome, out)?);
+        let Some(far) = print_fed(to, fed.used, outcome, out)? else {
+            return Ok(state);
+        };
+        let next = from.wrapping_add(far);
         if next <= from {
             return Ok(state);
         }
@@ -61,23 +63,28 @@ fn feed_piece<W: Write>(
     }
 }
 
-// The bytes used; the string, or that none is complete, or why none. How far on the next feed is: 0
-// where no string came.
-fn print_fed<W: Write>(to: &mut W, used: usize, outcome: Framed, out: &[u8]) -> io::Result<usize> {
+// The bytes used; the string, or that none is complete, or why none. How far on the next feed is, where a
+// string came.
+fn print_fed<W: Write>(
+    to: &mut W,
+    used: usize,
+    outcome: Result<Option<usize>, Refusal>,
+    out: &[u8],
+) -> io::Result<Option<usize>> {
     print_number(to, NOTHING, used)?;
     let far = match outcome {
-        Framed::Whole(n) => {
+        Ok(Some(n)) => {
             print_bytes(to, SPACE, part(out, 0, n))?;
-            used
+            Some(used)
         }
-        Framed::Partial => {
+        Ok(None) => {
             say(to, PART)?;
-            0
+            None
         }
-        Framed::Refused(refusal) => {
+        Err(refusal) => {
             say(to, SPACE)?;
             print_refusal(to, refusal)?;
-            0
+            None
         }
     };
     say(to, COMMA)?;

@@ -5,7 +5,7 @@ use crate::argument::{COUNT, byte, number, part, text, word};
 use crate::calls::print_outcome;
 use crate::deletion::print_deletions;
 use crate::names::{COMMA, NOTHING, SPACE, say};
-use line::Written;
+use line::Refusal;
 use line::character::CR;
 use line::memory::{copy, find, is_same};
 use snpp::answer::greeting;
@@ -13,7 +13,6 @@ use snpp::step::{start, step};
 use snpp::{Settings, Stage, State, Stepped, write_out};
 use std::io;
 use std::io::Write;
-use std::num::wrapping_add_usize;
 
 // Which argument the size of the journal's buffer is.
 pub(crate) const SIZE: u8 = 6;
@@ -51,10 +50,10 @@ pub(crate) fn print_gateway<W: Write>(
 }
 
 // The bytes that were put out, or why none; and all of the output. Both by their digests.
-fn print_put<W: Write>(to: &mut W, outcome: Written, out: &[u8]) -> io::Result<()> {
+fn print_put<W: Write>(to: &mut W, outcome: Result<usize, Refusal>, out: &[u8]) -> io::Result<()> {
     match outcome {
-        Written::Count(n) => print_digest(to, NOTHING, part(out, 0, n))?,
-        Written::Refused(refusal) => print_refusal(to, refusal)?,
+        Ok(n) => print_digest(to, NOTHING, part(out, 0, n))?,
+        Err(refusal) => print_refusal(to, refusal)?,
     }
     print_digest(to, SPACE, out)
 }
@@ -62,7 +61,7 @@ fn print_put<W: Write>(to: &mut W, outcome: Written, out: &[u8]) -> io::Result<(
 // Before the first line: a state, and the journal's length.
 fn begun(call: &[u8], state: State) -> Stepped {
     Stepped {
-        outcome: Written::Count(0),
+        outcome: Ok(0),
         state,
         journal: number(call, 3),
     }
@@ -72,8 +71,8 @@ fn begun(call: &[u8], state: State) -> Stepped {
 fn saved(call: &[u8]) -> State {
     let mut pager = [0; 8];
     let mut message = [0; 2043];
-    copy(word(call, 9), &mut pager);
-    copy(word(call, 11), &mut message);
+    let _ = copy(word(call, 9), &mut pager);
+    let _ = copy(word(call, 11), &mut message);
     State {
         stage: stage_of(byte(word(call, 8), 0)),
         pager,
@@ -83,6 +82,7 @@ fn saved(call: &[u8]) -> State {
     }
 }
 
+// A letter of the calls' file, which snpp does not know; a `From` for snpp's enum can't stand here.
 fn stage_of(letter: u8) -> Stage {
     match letter {
         b'o' => Stage::Open,
@@ -103,10 +103,8 @@ fn print_session<W: Write>(
 ) -> io::Result<()> {
     let count = byte(call, COUNT);
     let mut stepped = begun;
-    let mut index = before;
-    while index < count {
-        index += 1;
-        stepped = hear(call, word(call, index), stepped, pagers, journal, out);
+    for index in before..count {
+        stepped = hear(call, word(call, index + 1), stepped, pagers, journal, out);
         let outcome = stepped.outcome;
         print_outcome(to, call, outcome, out)?;
         say(to, COMMA)?;
@@ -152,6 +150,7 @@ fn print_state<W: Write>(to: &mut W, state: State) -> io::Result<()> {
     print_digest(to, SPACE, &message)
 }
 
+// A number of that file, as `stage_of`.
 fn stage_number(stage: Stage) -> usize {
     match stage {
         Stage::Open => 0,
@@ -170,12 +169,7 @@ fn print_round_trip<W: Write>(
 ) -> io::Result<()> {
     let outcome = write_out(text(call), out);
     print_put(to, outcome, out)?;
-    let n = take_in(
-        call,
-        part(out, 0, line::answer::count(outcome)),
-        pagers,
-        journal,
-    );
+    let n = take_in(call, part(out, 0, outcome.unwrap_or(0)), pagers, journal);
     print_number(to, SPACE, is_same(text(call), part(journal, 0, n)) as usize)?;
     print_number(to, SPACE, n)?;
     print_digest(to, SPACE, journal)
@@ -186,6 +180,7 @@ fn take_in(call: &[u8], lines: &[u8], pagers: &[u32], journal: &mut [u8]) -> usi
     let mut answer = [0; 6];
     let mut stepped = begun(call, start());
     let mut from = 0;
+    // From line to line: no `for`.
     while from < lines.len() {
         let end = find(lines, from, CR);
         stepped = hear(
@@ -196,7 +191,7 @@ fn take_in(call: &[u8], lines: &[u8], pagers: &[u32], journal: &mut [u8]) -> usi
             journal,
             &mut answer,
         );
-        let next = wrapping_add_usize(end, 2);
+        let next = end.wrapping_add(2);
         if next <= from {
             return stepped.journal;
         }

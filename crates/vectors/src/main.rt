@@ -18,7 +18,6 @@ mod runs;
 ghost use Rattle.std.specs.Prelude.{◌≡◌, ◌≤◌, length, IfOk, vec_len};
 
 use line::character::LF;
-use line::memory::find;
 use std::alloc::{AllocError, Global};
 use std::io;
 use std::io::{BufWriter, Read, Write};
@@ -43,6 +42,7 @@ fn read_full<R: Read>(from: &mut R, buf: &mut [u8]) -> io::Result<usize>
     ensures { IfOk result (λ n. n ≤ length buf.new) }
 {
     let mut done = 0;
+    // By the bytes that each read brings: no `for`.
     while done < buf.len() {
         let n = from.read(&mut buf[done..])?;
         if n == 0 {
@@ -55,14 +55,8 @@ fn read_full<R: Read>(from: &mut R, buf: &mut [u8]) -> io::Result<usize>
 
 // Every line of the input.
 fn run<W: Write>(to: &mut W, input: &[u8]) -> io::Result<()> {
-    let mut from = 0;
-    while from < input.len() {
-        let end = find(input, from, LF);
-        print_answer(to, &input[from..end])?;
-        if input.len() <= end {
-            return Ok(());
-        }
-        from = end + 1;
+    for line in input.split_inclusive(|&b| b == LF) {
+        print_answer(to, line.strip_suffix(&[LF]).unwrap_or(line))?;
     }
     Ok(())
 }

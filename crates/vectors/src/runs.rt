@@ -4,7 +4,8 @@ use crate::answer::{print_bytes, print_digest, print_number, print_refusal};
 use crate::argument::{number, text, word};
 use crate::ends::{central_settings, device_settings};
 use crate::names::{NOTHING, SPACE};
-use call::Ran;
+use call::Totals;
+use line::Refusal;
 use std::io;
 use std::io::Write;
 
@@ -41,12 +42,12 @@ pub(crate) fn print_run<W: Write>(
     print_digest(to, SPACE, journal)
 }
 
-fn print_ran<W: Write>(to: &mut W, ran: Ran) -> io::Result<()> {
+fn print_ran<W: Write>(to: &mut W, ran: Result<Totals, Refusal>) -> io::Result<()> {
     match ran {
-        Ran::Done(totals) => {
+        Ok(totals) => {
             print_number(to, NOTHING, totals.transmissions)?;
             print_number(to, SPACE, totals.journal)
         }
-        Ran::Refused(refusal) => print_refusal(to, refusal),
+        Err(refusal) => print_refusal(to, refusal),
     }
 }

@@ -11,7 +11,7 @@ use lib.ListN.{length, get_or}
 use Rattle.line.specs.Answer.{Outcome, done, refused}
 use Rattle.line.specs.Character.{CR, EOT}
 use Rattle.line.specs.Parity.{even, seven_bits, parity_off}
-use Rattle.line.specs.Test.{all, same}
+use Rattle.line.specs.Test.{all, before_first, same}
 use Rattle.line.proofs.OutcomeLaws.{passed, choice}
 use Rattle.line.proofs.SameLaws.{same_equal}
 use Rattle.block.specs.Block.{Segment, read_block}
@@ -28,7 +28,7 @@ use Rattle.device.specs.declared.state.Settings.{Settings}
 use Rattle.device.specs.declared.state.Step.TheVariants.{Sending, Closing}
 use Rattle.device.proofs.JobLaws.{somewhere-parts}
 use Rattle.device.proofs.SegmentsLaws.{segments_right}
-use Rattle.framer.specs.Framing.{Whole, before_first, is_opening}
+use Rattle.framer.specs.Framing.{Whole, is_opening}
 use Rattle.framer.specs.State.{state_of}
 use Rattle.framer.specs.Driver.{Drives}
 use Rattle.framer.proofs.BlockLaws.{seven-whole, seven-bye, block-whole, bye-whole}

@@ -1,20 +1,19 @@
 -- `extend` meets its contract: the trailer is tested as `trailer_in` has it, and the record goes behind the position that it gives.
-use mathlib.Core.Path.{sym, ap, ◌∙◌}
-use Rattle.line.proofs.OverlayLaws.{wrote-refused}
+use mathlib.Core.Path.{sym}
+use Rattle.append.proofs.TailLaws.{wrote-handed}
 use Rattle.journal.proofs.StorageLaws.{trailer_in_parts}
-use Rattle.journal.specs.Walk.{opened_as}
 use Rattle.append.specs.Append.{extend_to}
 use Rattle.append.proofs.extend.Goals as goal
 
 pub put_behind-requires : goal.put_behind-requires
 put_behind-requires c =
-    let (size, _, _, small, few) = trailer_in_parts _ _ _ (sym c.open_in-opened.ensures ∙ ap opened_as c.in-At.is) in
+    let (size, _, _, small, few) = trailer_in_parts _ _ _ (sym c.in_ok-position.ensures) in
     (size, small, few)
 
-pub returns-in-At : goal.returns-in-At
+pub returns-in_err-position : goal.returns-in_err-position
 unfolding extend_to
-returns-in-At c = rw (sym c.open_in-opened.ensures ∙ ap opened_as c.in-At.is) c.put_behind.ensures
+returns-in_err-position c = wrote-handed _ _ _ c.from_residual.ensures.1 (rw (sym c.in_err-position.ensures))
 
-pub returns-in-Refused : goal.returns-in-Refused
+pub returns : goal.returns
 unfolding extend_to
-returns-in-Refused c = wrote-refused _ _ (rw (sym c.open_in-opened.ensures ∙ ap opened_as c.in-Refused.is))
+returns c = rw (sym c.in_ok-position.ensures) c.put_behind.ensures

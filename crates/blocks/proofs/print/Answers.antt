@@ -2,11 +2,12 @@
 use Rattle.std.proofs.Common.{◌≡◌, ◌+◌, ◌-◌, ◌≤◌, ◌<◌, ℕ, List, ◌⊎◌, inl, inr, length, take, drop, refl, sym, arith}
 use borrow.Author.Tests.{lt-ltb, le-ltb}
 use lib.Seq.{length-take-le}
-use Rattle.line.specs.Answer.{done, Laid, Wrote}
-use Rattle.line.specs.declared.answer.Written.{Written}
-use Rattle.line.specs.declared.answer.Written.TheVariants.{Count}
+use Rattle.line.specs.Answer.{done, count_of, outcome_of, Laid, Wrote}
+use Rattle.std.specs.Prelude.{Result}
+use Rattle.line.specs.declared.answer.Refusal.{Refusal}
 use Rattle.line.proofs.OverlayLaws.{overlay-own}
-use Rattle.line.proofs.LaidLaws.{part_length, laid-within, laid-part, laid-never, laid-counted}
+use Rattle.line.proofs.LaidLaws.{part_length, laid-within, laid-part}
+use Rattle.line.proofs.NumberLaws.{laid-count}
 use Rattle.listing.specs.Listing.{listing, listed}
 use Rattle.blocks.specs.Lines.{stays}
 use Rattle.blocks.proofs.print.Goals as goal
@@ -30,10 +31,10 @@ module _ (line out : List ℕ) (at : ℕ) (fits : at + 10248 ≤ length out) whe
   made = rw (part_length at out, le-ltb (length out - at) 10248 (omega arith)) refl
 
   -- and laid behind what stays, within the output
-  laid : {new : List ℕ} {r : Written} {n : ℕ} → Wrote (listed line (length (take (length out - at) (drop at out)))) r (take (length out - at) (drop at out)) new →
-      length new ≡ length (take (length out - at) (drop at out)) → r ≡ Count n → (at + n ≤ length out) × Laid (listing line) n (take (length out - at) (drop at out)) new
-  laid wrote long is =
-      let printed = laid-counted made wrote is in
+  laid : {new : List ℕ} {r : Result ℕ Refusal} {n : ℕ} → Wrote (listed line (length (take (length out - at) (drop at out)))) r (take (length out - at) (drop at out)) new →
+      length new ≡ length (take (length out - at) (drop at out)) → n ≡ count_of (outcome_of r) → (at + n ≤ length out) × Laid (listing line) n (take (length out - at) (drop at out)) new
+  laid wrote long counts =
+      let printed = laid-count made wrote counts in
       (omega (arith, laid-within printed, part_length at out), printed)
 
 pub overflow_add-result : goal.overflow_add-result
@@ -42,23 +43,15 @@ overflow_add-result g c =
     let at = c.if-out-at.at in
     let placed : Placed c.args.waiting at out = elim c.if-out-at.branch [ then-out-at+in_ok-write_all w ↦ inl (w.if-out-at.true, w.at-is) | else-out-at w ↦ inr (w.if-out-at.false, w.at-is) ] in
     let (stay, fits) = room c.args.waiting at out c.requires.0 c.requires.1 placed in
-    let (within, printed) = laid c.args.line.now out at fits c.list.ensures c.list.auto.out c.in-Count.is in
+    let (within, printed) = laid c.args.line.now out at fits c.list.ensures c.list.auto.out c.count.ensures in
     omega (arith, within)
 
-pub returns-in-Count-clause-ok : goal.returns-in-Count-clause-ok
-returns-in-Count-clause-ok g c =
+pub returns-clause-ok : goal.returns-clause-ok
+returns-clause-ok g c =
     let out = c.args.out.now in
     let at = c.if-out-at.at in
     let placed : Placed c.args.waiting at out = elim c.if-out-at.branch [ then-out-at+in_ok-write_all w ↦ inl (w.if-out-at.true, w.at-is) | else-out-at w ↦ inr (w.if-out-at.false, w.at-is) ] in
     let (stay, fits) = room c.args.waiting at out c.requires.0 c.requires.1 placed in
-    let (within, printed) = laid c.args.line.now out at fits c.list.ensures c.list.auto.out c.in-Count.is in
+    let (within, printed) = laid c.args.line.now out at fits c.list.ensures c.list.auto.out c.count.ensures in
     rw (← stay)
     (laid-part (record { counts = sym (length-take-le at out (omega arith)); leaves = overlay-own at out (omega arith) }) (omega (arith, printed.counts)) printed)
-
-pub returns-in-Refused-clause-ok : goal.returns-in-Refused-clause-ok
-returns-in-Refused-clause-ok g c =
-    let out = c.args.out.now in
-    let at = c.if-out-at.at in
-    let placed : Placed c.args.waiting at out = elim c.if-out-at.branch [ then-out-at+in_ok-write_all w ↦ inl (w.if-out-at.true, w.at-is) | else-out-at w ↦ inr (w.if-out-at.false, w.at-is) ] in
-    let fits = (room c.args.waiting at out c.requires.0 c.requires.1 placed).1 in
-    absurd (laid-never (made c.args.line.now out at fits) c.list.ensures c.in-Refused.is)

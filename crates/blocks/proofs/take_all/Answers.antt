@@ -4,10 +4,10 @@ use Rattle.blocks.specs.Lines.{taken}
 use Rattle.blocks.proofs.LineLaws.{took_append}
 use Rattle.blocks.proofs.take_all.Goals as goal
 
-pub loop-turns-init : goal.loop-turns-init
+pub loop-init : goal.loop-init
 unfolding taken
-loop-turns-init g c =
+loop-init g c =
     ([], record { within = record { keeps = search rules; lines = c.requires.0; waits = search rules; prints = c.requires.1 }; written = []; right = refl })
 
-pub loop-turns-preserved : goal.loop-turns-preserved
-loop-turns-preserved g c = (_, took_append c.loop-turns.auto.out c.loop-turns.invariant.1 c.in_ok-filled.ensures.ok)
+pub loop-preserved : goal.loop-preserved
+loop-preserved g c = (_, took_append c.loop.auto.out c.loop.invariant.1 c.in_ok-filled.ensures.ok)

@@ -7,9 +7,10 @@ use native.Mathlib.Nat.{zero-add}
 use lib.ListN.{length, get_or, take, drop, length-drop}
 use lib.Seq.{take_all, drop-cons}
 use Rattle.line.specs.Answer.{done}
-use Rattle.framer.specs.Framing.{is_opening, before_first, unfinished}
+use Rattle.line.specs.Test.{before_first}
+use Rattle.framer.specs.Framing.{is_opening, unfinished}
 use Rattle.framer.specs.State.{state_of}
-use Rattle.framer.proofs.FirstLaws.{first-within, first_passes}
+use Rattle.line.proofs.FirstLaws.{first-within, first_passes}
 use Rattle.framer.proofs.FramingLaws.{size_bounds, held-begun, fed_skipped, fed-opened}
 use Rattle.framer.proofs.StateLaws.{feeds_none, feeds_done}
 use native.Mathlib.Omega.{arith}

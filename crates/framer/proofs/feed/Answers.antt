@@ -12,11 +12,6 @@ use Rattle.framer.proofs.StateLaws.{tested-range, tested-room, tested-done, rang
 use native.Mathlib.Omega.{arith}
 use borrow.Author.Rules.{rules}
 use Rattle.framer.proofs.feed.Goals as goal
-use Rattle.framer.proofs.feed.Goals.{Else-not-is_in_range}
-
--- the state is in range
-ranged : (c : Else-not-is_in_range) → in_range c.args.state ≡ true
-ranged c = sym c.is_in_range.ensures ∙ c.if-not-is_in_range.false
 
 pub returns-then-not-is_in_range : goal.returns-then-not-is_in_range
 returns-then-not-is_in_range c =
@@ -31,8 +26,8 @@ returns-then-out-lt-STRING c =
     let short = tested-room a.state (length a.out.now) (fed (held_in a.state) a.bytes.now) ranged c.if-out-lt-STRING.true in
     rw c.refuse-then-out-lt-STRING.ensures (feeds_refused a.state Size a.out.now short)
 
-pub slice_bounds-held-end : goal.slice_bounds-held-end
-slice_bounds-held-end c =
+pub shared_ref_as_front-go_on : goal.shared_ref_as_front-go_on
+shared_ref_as_front-go_on c =
     let sized : length c.args.state.held ≡ 256 = search rules in
     let ranged : in_range c.args.state ≡ true = sym c.is_in_range.ensures ∙ c.if-not-is_in_range.false in
     omega (arith, (range_length c.args.state ranged sized).1, sized)
@@ -50,8 +45,8 @@ go_on-requires c =
     let (count, _) = range_length c.args.state ranged sized in
     (record { going = range-held c.args.state ranged; some = omega arith; room = c.if-out-lt-STRING.false }, omega (arith, c.well_formed))
 
-pub returns-then-length-gt0 : goal.returns-then-length-gt0
-returns-then-length-gt0 c =
+pub returns-then-state-gt0 : goal.returns-then-state-gt0
+returns-then-state-gt0 c =
     let ranged : in_range c.args.state ≡ true = sym c.is_in_range.ensures ∙ c.if-not-is_in_range.false in
     let tested : (let a = c.args in fed_to a.state a.bytes.now (length a.out.now) ≡ done (fed (held_in a.state) a.bytes.now)) = (let a = c.args in
     tested-done a.state (length a.out.now) (fed (held_in a.state) a.bytes.now) ranged c.if-out-lt-STRING.false) in

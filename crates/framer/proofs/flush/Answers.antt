@@ -9,11 +9,6 @@ use Rattle.framer.proofs.StateLaws.{tested-range, tested-room, tested-done, rang
 use native.Mathlib.Omega.{arith}
 use borrow.Author.Rules.{rules}
 use Rattle.framer.proofs.flush.Goals as goal
-use Rattle.framer.proofs.flush.Goals.{Else-not-is_in_range}
-
--- the state is in range
-ranged : (c : Else-not-is_in_range) → in_range c.args.state ≡ true
-ranged c = sym c.is_in_range.ensures ∙ c.if-not-is_in_range.false
 
 pub returns-then-not-is_in_range : goal.returns-then-not-is_in_range
 returns-then-not-is_in_range c =
@@ -27,8 +22,8 @@ returns-then-out-lt-STRING c =
     let a = c.args in
     flushes_refused a.state Size a.out.now (tested-room a.state (length a.out.now) (held_in a.state) ranged c.if-out-lt-STRING.true)
 
-pub slice_bounds-held-end : goal.slice_bounds-held-end
-slice_bounds-held-end c =
+pub shared_ref_as_front-copy : goal.shared_ref_as_front-copy
+shared_ref_as_front-copy c =
     let sized : length c.args.state.held ≡ 256 = search rules in
     let ranged : in_range c.args.state ≡ true = sym c.is_in_range.ensures ∙ c.if-not-is_in_range.false in
     let held : (let s = c.args.state in (length (held_in s) ≡ s.length) × (s.length < 256)) = range_length c.args.state ranged sized in

@@ -23,4 +23,4 @@ pub returns : goal.returns
 returns c =
     let h = c.args.held.now in
     let tail : length h - 5 ≡ length h - 4 - 1 = omega arith in
-    sym (held-many h (omega arith) c.if-first-ne-STX.false c.if-n-lt-TAIL.false ∙ rw (tail, ← c.are.ensures))
+    sym (held-many h (omega arith) c.if-first-ne-STX.false c.if-n-lt-TAIL.false ∙ rw (tail, ← c.every.ensures))

@@ -4,7 +4,7 @@ use Prim.Native.Nat.{◌+◌, ◌-◌, ◌≤◌, ◌<◌}
 use native.Mathlib.Omega.{arith}
 use lib.ListN.{length, take, length-take}
 use Rattle.framer.specs.Framing.{is_ending}
-use Rattle.framer.proofs.FirstLaws.{first-within}
+use Rattle.line.proofs.FirstLaws.{first-within}
 use Rattle.framer.proofs.HeldLaws.{held-short, size-eot, size-held, size-comes}
 use Rattle.framer.proofs.size.Goals as goal
 use Rattle.framer.proofs.size.Goals.{Joined-n-lt-TAIL, Start, After-seek, then-n-lt-TAIL, else-n-lt-TAIL}
@@ -18,10 +18,10 @@ short : (c : Start) → length c.args.held.now < 256
 short c = held-short c.args.held.now c.requires.0
 
 -- the place that was found in what comes lies within the part that was searched
-within : (c : After-seek) → c.seek.result ≤ c.least-most.result
+within : (c : After-seek) → c.seek.result ≤ c.min-most.result
 within c =
     let bytes = c.args.bytes.now in
-    let most = c.least-most.result in
+    let most = c.min-most.result in
     omega (arith, c.seek.ensures, first-within is_ending (take most bytes), length-take most bytes)
 
 pub returns-then-held-eq-EOT : goal.returns-then-held-eq-EOT
@@ -30,13 +30,13 @@ returns-then-held-eq-EOT c = sym (size-eot c.args.held.now c.args.bytes.now c.re
 pub returns-then-end-n : goal.returns-then-end-n
 returns-then-end-n c =
     let (least, most) = last_four (goal.at.returns-then-end-n c).Joined-n-lt-TAIL in
-    c.least.ensures ∙ sym (size-held c.args.held.now c.args.bytes.now c.requires.0 c.requires.1 c.if-held-eq-EOT.false c.if-n-lt-TAIL.from least most c.seek-end.result c.seek-end.ensures c.if-end-n.true)
+    c.min.ensures ∙ sym (size-held c.args.held.now c.args.bytes.now c.requires.0 c.requires.1 c.if-held-eq-EOT.false c.if-n-lt-TAIL.from least most c.seek-end.result c.seek-end.ensures c.if-end-n.true)
 
 pub returns : goal.returns
 returns c =
     let (least, most) = last_four (goal.at.returns c).Joined-n-lt-TAIL in
-    let found = size-comes c.args.held.now c.args.bytes.now c.requires.0 c.requires.1 c.if-held-eq-EOT.false c.if-n-lt-TAIL.from least most c.seek-end.result c.seek-end.ensures c.if-end-n.false c.least-most.result c.least-most.ensures in
-    c.least-2.ensures ∙ rw c.seek.ensures (omega arith)
+    let found = size-comes c.args.held.now c.args.bytes.now c.requires.0 c.requires.1 c.if-held-eq-EOT.false c.if-n-lt-TAIL.from least most c.seek-end.result c.seek-end.ensures c.if-end-n.false c.min-most.result c.min-most.ensures in
+    c.min-2.ensures ∙ rw c.seek.ensures (omega arith)
 
 pub overflow_sub-n : goal.overflow_sub-n
 overflow_sub-n c = omega (arith, short (goal.at.overflow_sub-n c).Start)
@@ -44,9 +44,9 @@ overflow_sub-n c = omega (arith, short (goal.at.overflow_sub-n c).Start)
 pub overflow_add-n : goal.overflow_add-n
 overflow_add-n c =
     let here = goal.at.overflow_add-n c in
-    omega (arith, within here.After-seek, c.least-most.ensures, short here.Start)
+    omega (arith, within here.After-seek, c.min-most.ensures, short here.Start)
 
 pub overflow_add-n-2 : goal.overflow_add-n-2
 overflow_add-n-2 c =
     let here = goal.at.overflow_add-n-2 c in
-    omega (arith, within here.After-seek, c.least-most.ensures, short here.Start)
+    omega (arith, within here.After-seek, c.min-most.ensures, short here.Start)

@@ -7,10 +7,10 @@ use Rattle.listing.proofs.put_block.Goals.{Start}
 pub put_part-requires : goal.put_part-requires
 put_part-requires c =
     let good = line-good c.args.line.now c.args.space c.requires.0 in
-    (part_cut c.args.line.now c.args.space c.args.index c.least-end.result c.place.result good c.requires.1 c.least-end.ensures c.place.ensures, search rules)
+    (part_cut c.args.line.now c.args.space c.args.index c.min-end.result c.place.result good c.requires.1 c.min-end.ensures c.place.ensures, search rules)
 
 pub returns : goal.returns
 returns c =
     let good = line-good c.args.line.now c.args.space c.requires.0 in
-    rw (part-segment c.args.line.now c.args.space c.args.index c.least-end.result c.place.result good c.requires.1 c.least-end.ensures c.place.ensures)
+    rw (part-segment c.args.line.now c.args.space c.args.index c.min-end.result c.place.result good c.requires.1 c.min-end.ensures c.place.ensures)
     c.put_part.ensures

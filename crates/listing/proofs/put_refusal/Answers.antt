@@ -4,4 +4,4 @@ use Rattle.listing.proofs.ListingLaws.{added-laid}
 use Rattle.listing.proofs.put_refusal.Goals as goal
 
 pub returns : goal.returns
-returns c = rw (← c.number.ensures) (added-laid c.put_text.ensures refl)
+returns c = rw (← c.from.ensures) (added-laid c.put_text.ensures refl)

@@ -10,13 +10,13 @@ unfolding reply_read
 returns-in_default c = sym (ap recognized_in (refused_only _ _ c.in_default.is c.clear_parity.ensures))
 
 pub slice_bounds-text-end : goal.slice_bounds-text-end
-slice_bounds-text-end c = (counted_start _ _ c.in-Count.is c.clear_parity.ensures).0
+slice_bounds-text-end c = (counted_start _ _ c.in-Ok.is c.clear_parity.ensures).0
 
 pub slice_bounds-read_text-end : goal.slice_bounds-read_text-end
-slice_bounds-read_text-end c = sym (length-take-le _ _ (counted_start _ _ c.in-Count.is c.clear_parity.ensures).0)
+slice_bounds-read_text-end c = sym (length-take-le _ _ (counted_start _ _ c.in-Ok.is c.clear_parity.ensures).0)
 
 pub returns : goal.returns
 unfolding reply_read
 returns c =
-    let taken-off = (counted_start _ _ c.in-Count.is c.clear_parity.ensures).1 in
+    let taken-off = (counted_start _ _ c.in-Ok.is c.clear_parity.ensures).1 in
     c.read_text.ensures ∙ sym (ap recognized_in taken-off)

@@ -1,12 +1,9 @@
 -- `segment_start` meets its contract: behind i turns it is where i blocks end.
 use mathlib.Core.Path.{◌≡◌}
-use Prim.Native.Nat.{◌-◌, ◌≤◌}
+use Prim.Native.Nat.{◌≤◌}
 use lib.ListN.{length, drop}
 use Rattle.segmentation.specs.Segmentation.{behind, cut_by}
 use Rattle.segmentation.proofs.segment_start.Given as goal
 
-abbrev pub invariant-loop-i : goal.invariant-loop-i
-invariant-loop-i l = (l.from ≤ length l.info) × (l.i ≤ l.index) × (drop l.from l.info ≡ behind (cut_by l.way) l.i l.info)
-
-abbrev pub decreases-loop-i : goal.decreases-loop-i
-decreases-loop-i l = l.index - l.i
+abbrev pub invariant-loop : goal.invariant-loop
+invariant-loop l = (l.from ≤ length l.info) × (drop l.from l.info ≡ behind (cut_by l.way) l.counter l.info)

@@ -1,4 +1,5 @@
 -- `write_filled` meets its contract: each return is the case of `write_segment` that the tests before it leave.
+use Rattle.line.proofs.OutcomeLaws.{handed-on}
 use mathlib.Core.Path.{◌≡◌, sym, ◌∙◌}
 use Prim.Native.Nat.{◌+◌, ◌≤◌, ◌<◌}
 use borrow.Author.Tests.{le-leb, lt-leb, lt-ltb, le-ltb}
@@ -51,19 +52,15 @@ returns-then-out-segment_length c =
 pub put_segment-requires : goal.put_segment-requires
 put_segment-requires c =
     let a = c.args in
-    let counts = rw c.in-Count.is at c.check_transaction.ensures in
     let at = goal.at.put_segment-requires c in
-    rw (by_filled a.info.now) ((of_done a.info.now _ _ (sym counts)).0, place at.Else-filled_count-index, fits at.Else-out-segment_length)
+    rw (by_filled a.info.now) ((of_done a.info.now _ _ (sym c.in_ok-check_transaction.ensures)).0, place at.Else-filled_count-index, fits at.Else-out-segment_length)
 
-pub returns-in-Refused : goal.returns-in-Refused
-returns-in-Refused c =
-    let a = c.args in
-    let refuses = rw c.in-Refused.is at c.check_transaction.ensures in
-    wrote-refused _ _ (passes (goal.at.returns-in-Refused c).Else-out-segment_length ∙ of_refused a.info.now _ _ _ (sym refuses))
+pub returns-in_err-check_transaction : goal.returns-in_err-check_transaction
+returns-in_err-check_transaction c =
+    rw (handed-on _ _ c.from_residual.ensures.1) (wrote-refused _ _ (passes (goal.at.returns-in_err-check_transaction c).Else-out-segment_length ∙ of_refused c.args.info.now _ _ _ (sym c.in_err-check_transaction.ensures)))
 
-pub returns-in-Count : goal.returns-in-Count
-returns-in-Count c =
+pub returns : goal.returns
+returns c =
     let a = c.args in
-    let counts = rw c.in-Count.is at c.check_transaction.ensures in
-    let legal = (of_done a.info.now _ _ (sym counts)).0 in
-    wrote-laid (passes (goal.at.returns-in-Count c).Else-out-segment_length ∙ of_legal a.info.now _ legal) (rw (by_filled a.info.now) at c.put_segment.ensures)
+    let legal = (of_done a.info.now _ _ (sym c.in_ok-check_transaction.ensures)).0 in
+    wrote-laid (passes (goal.at.returns c).Else-out-segment_length ∙ of_legal a.info.now _ legal) (rw (by_filled a.info.now) at c.put_segment.ensures)

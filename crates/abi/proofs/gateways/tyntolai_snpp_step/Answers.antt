@@ -1,16 +1,18 @@
 -- `tyntolai_snpp_step` meets its contract: a record with no stage is refused, else the state that it is steps.
-use borrow.Author.Tests.{lt-ltb, le-ltb}
 use Rattle.abi.specs.Gateways.{gateway_stepped}
+use Rattle.abi.proofs.AnswerLaws.{numbered, unnumbered}
 use Rattle.abi.proofs.GatewayLaws.{gateway_refused, gateway_steps}
 use Rattle.abi.proofs.gateways.tyntolai_snpp_step.Goals as goal
 
-pub returns-then-state-gt-STAGES : goal.returns-then-state-gt-STAGES
+pub returns-in_default : goal.returns-in_default
 unfolding gateway_stepped
-returns-then-state-gt-STAGES c = rw (lt-ltb 2 _ c.if-state-gt-STAGES.true) (gateway_refused _ _ c.of_refusal.ensures)
+returns-in_default c =
+    let (out, _) = unnumbered _ 9 _ _ c.in_default.ensures in
+    rw out (gateway_refused _ _ c.from.ensures)
 
 pub returns : goal.returns
 unfolding gateway_stepped
 returns c =
-    let stage = le-ltb 2 _ c.if-state-gt-STAGES.false in
+    let (stage, is) = numbered _ 9 _ _ c.in-Ok.ensures in
     rw stage
-    (gateway_steps _ stage (rw c.stage_of.ensures at c.step-stepped.ensures) c.of_written.ensures c.stage_number.ensures)
+    (gateway_steps _ stage (rw is at c.step-stepped.ensures) c.from-2.ensures c.stage_number.ensures)

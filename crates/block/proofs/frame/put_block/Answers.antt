@@ -6,7 +6,7 @@ use Rattle.line.specs.Character.{CR}
 use Rattle.line.proofs.OverlayLaws.{overlay-snoc, overlay-start}
 use Rattle.block.specs.Block.{summed, block_of}
 use Rattle.block.specs.Checksum.{checksum, check_characters}
-use Rattle.line.proofs.CopyLaws.{copied-part}
+use Rattle.line.proofs.CopyLaws.{copied-behind}
 use Rattle.block.proofs.FrameLaws.{summed-length}
 use Rattle.block.proofs.frame.put_block.Goals as goal
 
@@ -27,6 +27,6 @@ returns c =
     let checked : c.check_characters-check.result ≡ check =
     c.check_characters-check.ensures ∙ rw (c.put_summed.ensures, overlay-start sum _ _ long) in
     let few = ap length checked ∙ three (checksum sum) in
-    let laid : put_mid n (length m - n) m c.copy.new.out ≡ overlay (sum ++ c.check_characters-check.result) a.out.now =
-    copied-part sum c.check_characters-check.result a.out.now m _ n c.put_summed.ensures long (omega arith) c.copy.ensures in
+    let laid : put_mid n (n + 3 - n) m c.copy_from_slice.new.self ≡ overlay (sum ++ c.check_characters-check.result) a.out.now =
+    copied-behind sum c.check_characters-check.result a.out.now m _ n (n + 3 - n) c.put_summed.ensures long (omega arith) c.copy_from_slice.ensures.after in
     rw (laid, checked) (overlay-snoc (sum ++ check) a.out.now (n + 3) CR (length-append sum check ∙ omega (arith, three (checksum sum))) (omega arith) ∙ rw append_assoc)

@@ -10,5 +10,5 @@ returns c =
     λ u.
     let counted = c.count.ensures in
     let noted = c.note.ensures u.ends.verdicts u.stands.numbers in
-    let bytes = all-bytes _ c.slice_known-1.given in
-    exchanged u c.args.fault c.hear-reacted.ensures (search rules) _ counted c.read-moved.ensures (c.memory-1.given ∙ u.stands.wide) _ c.count-2.ensures noted c.pending-1.given c.memory-2-1.given bytes
+    let bytes = all-bytes c.args.journal.now (search rules) in
+    exchanged u c.args.fault (rw (c.from.ensures _) at c.hear-reacted.ensures) (search rules) _ counted (rw (c.from-2.ensures _) at c.read-moved.ensures) (c.memory-1.given.1 ∙ u.stands.wide) _ c.count-2.ensures noted c.pending-1.given c.memory-2-1.given bytes

@@ -1,6 +1,6 @@
 -- `note` meets its contract: the number of the verdict is stored in its place.
-use Rattle.call.proofs.ArriveLaws.{numbers-set}
+use Rattle.std.proofs.lemmas.List.{map-set}
 use Rattle.call.proofs.exchange.note.Goals as goal
 
-pub returns-then-transaction-verdicts : goal.returns-then-transaction-verdicts
-returns-then-transaction-verdicts c = λ vs e. rw (e, c.verdict_number.ensures, c.in-Verdict.is) (numbers-set vs _ _)
+pub returns-then-given-verdicts : goal.returns-then-given-verdicts
+returns-then-given-verdicts c = λ vs e. rw (e, c.from.ensures, c.in-Some.is, map-set)

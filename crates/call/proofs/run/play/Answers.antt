@@ -1,6 +1,7 @@
 use mathlib.Core.Path.{refl, ◌∙◌}
 use mathlib.Core.List.{[]}
 use native.Mathlib.Omega.{arith}
+use borrow.Author.Rules.{rules}
 use Rattle.line.proofs.AllLaws.{all-bytes}
 use Rattle.call.proofs.LoopLaws.{going-begins, going-ends, going_less, going_on, sound-few}
 use Rattle.call.proofs.run.play.Goals as goal
@@ -8,11 +9,11 @@ use Rattle.call.proofs.run.play.Goals as goal
 pub loop-ends-init : goal.loop-ends-init
 loop-ends-init c =
     let p = c.requires in
-    let bytes = all-bytes _ c.slice_known-1.given in
+    let bytes = all-bytes c.args.journal.now (search rules) in
     (refl, refl, refl, refl, bytes, going-begins _ _ p bytes)
 
 pub overflow_add-transmissions : goal.overflow_add-transmissions
-overflow_add-transmissions c = omega (arith, c.loop-ends.invariant.5.bounded, sound-few [] c.requires.sound (all-bytes _ c.shared_slice_known-1.given))
+overflow_add-transmissions c = omega (arith, c.loop-ends.invariant.5.bounded, sound-few [] c.requires.sound)
 
 pub loop-ends-smaller : goal.loop-ends-smaller
 loop-ends-smaller c = going_less _ _ c.loop-ends.invariant.5 (omega (arith, c.loop-ends-test.true)) c.fault_at-fault.ensures c.exchange-ends.ensures

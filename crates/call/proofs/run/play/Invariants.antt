@@ -8,13 +8,13 @@ use Rattle.line.specs.Test.{all}
 use Rattle.journal.specs.Storage.{decode_in}
 use Rattle.journal.specs.Walk.{decode}
 use Rattle.device.specs.Bound.{transmissions_left}
-use Rattle.call.specs.Call.{setup}
+use Rattle.call.specs.Inner.{setup_of}
 use Rattle.call.proofs.LoopLaws.{Going}
 use Rattle.call.proofs.run.play.Given as goal
 
 abbrev pub invariant-loop-ends : goal.invariant-loop-ends
 invariant-loop-ends l = (length l.journal ≡ length l.initial.journal) × (length l.pending ≡ length l.initial.pending) × (length l.memory ≡ length l.initial.memory) × (length l.verdicts ≡ length l.initial.verdicts) × (all byte l.journal ≡ true) ×
-    Going (setup l.device l.central l.pagers l.job) (output (decode_in l.initial.journal l.initial.ends.central.journal)) l.faults l.initial.journal l.ends l.transmissions l.journal l.pending l.memory l.verdicts
+    Going (setup_of l.setup) (output (decode_in l.initial.journal l.initial.ends.central.journal)) l.faults l.initial.journal l.ends l.transmissions l.journal l.pending l.memory l.verdicts
 
 abbrev pub decreases-loop-ends : goal.decreases-loop-ends
-decreases-loop-ends l = transmissions_left l.device (output (decode l.job)) l.ends.device.step
+decreases-loop-ends l = transmissions_left l.setup.device (output (decode l.setup.job.now)) l.ends.device.step

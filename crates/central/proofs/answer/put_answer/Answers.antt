@@ -11,4 +11,4 @@ pub returns : goal.returns
 returns c =
     let a = c.args in
     let made = parity-made (answer_text (answer_of a.answer)) (length a.out.now) (answer-seven (answer_of a.answer)) (omega (arith, answer-short (answer_of a.answer))) in
-    rw (c.text_of-text.ensures.text, made) at c.set_parity.ensures
+    rw (c.text_of.ensures, made) at c.set_parity.ensures

@@ -12,8 +12,8 @@ use Rattle.central.proofs.range.pagers_in_range.Goals as goal
 abbrev number : ℕ → Bool
 number n = ltb n 100000000
 
-pub loop-i-preserved : goal.loop-i-preserved
-loop-i-preserved c = (search rules, all_folded number _ c.loop-i.i c.loop-i.every c.loop-i.invariant.1 (omega arith) ∙ rw c.is_number-every.ensures)
+pub loop-n-preserved : goal.loop-n-preserved
+loop-n-preserved c = (search rules, all_folded number _ c.loop-n.n-index c.loop-n.every c.loop-n.invariant.1 (omega arith) ∙ rw c.is_number-every.ensures)
 
 pub returns : goal.returns
-returns c = rw (le-leb _ 1000 c.if-pagers-gt-MOST_PAGERS.false) (all-ended_folded number _ _ _ c.loop-i.invariant.1 c.loop-i-test.false)
+returns c = rw (le-leb _ 1000 c.if-pagers-gt-MOST_PAGERS.false) (all-ended_folded number _ _ _ c.loop-n.invariant.1 c.loop-n-test.false)

@@ -4,6 +4,7 @@ use Rattle.central.specs.declared.state.Control.{Control}
 use Rattle.central.specs.declared.state.Settings.{Settings}
 use mathlib.Core.List.{List}
 use Prim.Native.Nat.{ℕ}
+use borrow.Author.Rules.{rules}
 use Rattle.line.proofs.AllLaws.{all-bytes}
 use Rattle.central.proofs.ReactedLaws.{does_stores, stores_at}
 use Rattle.central.specs.Hearing.{recognized}
@@ -23,16 +24,16 @@ returns-in-Idle c =
     let a = c.args in
     let p = c.requires in
     let inside : a.control.length ≤ length a.pending.now = omega (arith, p) in
-    stores_at (told a.settings a.pagers.now a.control a.pending.now a.journal.now a.text.now) c.in-Idle.is
-    (does_stores a.control a.journal.now (all-bytes _ c.slice_known-1.given) p.journal (λ x. reacts (rules_of a.settings a.pagers.now) x Idle (recognized Idle a.text.now)) a.pending.now inside (c.in_idle.ensures (rules_of a.settings a.pagers.now)))
+    stores_at (told a.setup.settings a.setup.pagers.now a.control a.pending.now a.journal.now a.text.now) c.in-Idle.is
+    (does_stores a.control a.journal.now (all-bytes a.journal.now (search rules)) p.journal (λ x. reacts (rules_of a.setup.settings a.setup.pagers.now) x Idle (recognized Idle a.text.now)) a.pending.now inside (c.in_idle.ensures (rules_of a.setup.settings a.setup.pagers.now)))
 
 pub returns-in-Logon : goal.returns-in-Logon
 returns-in-Logon c =
     let a = c.args in
     let p = c.requires in
     let inside : a.control.length ≤ length a.pending.now = omega (arith, p) in
-    stores_at (told a.settings a.pagers.now a.control a.pending.now a.journal.now a.text.now) c.in-Logon.is
-    (does_stores a.control a.journal.now (all-bytes _ c.slice_known-1.given) p.journal (λ x. reacts (rules_of a.settings a.pagers.now) x Logon (recognized Logon a.text.now)) a.pending.now inside (c.in_logon.ensures a.pagers.now))
+    stores_at (told a.setup.settings a.setup.pagers.now a.control a.pending.now a.journal.now a.text.now) c.in-Logon.is
+    (does_stores a.control a.journal.now (all-bytes a.journal.now (search rules)) p.journal (λ x. reacts (rules_of a.setup.settings a.setup.pagers.now) x Logon (recognized Logon a.text.now)) a.pending.now inside (c.in_logon.ensures a.setup.pagers.now))
 
 pub returns-in-Closed : goal.returns-in-Closed
 unfolding reacts recognized
@@ -40,5 +41,5 @@ returns-in-Closed c =
     let a = c.args in
     let p = c.requires in
     let inside : a.control.length ≤ length a.pending.now = omega (arith, p) in
-    stores_at (told a.settings a.pagers.now a.control a.pending.now a.journal.now a.text.now) c.in-Closed.is
-    (does_stores a.control a.journal.now (all-bytes _ c.slice_known-1.given) p.journal stays a.pending.now inside c.stay.ensures)
+    stores_at (told a.setup.settings a.setup.pagers.now a.control a.pending.now a.journal.now a.text.now) c.in-Closed.is
+    (does_stores a.control a.journal.now (all-bytes a.journal.now (search rules)) p.journal stays a.pending.now inside c.stay.ensures)

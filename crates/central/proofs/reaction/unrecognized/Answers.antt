@@ -1,4 +1,5 @@
 -- `unrecognized` meets its contract: each stage does what it does with noise.
+use mathlib.Core.Logic.{inl, inr}
 use Rattle.central.specs.Hearing.{noise}
 use Rattle.central.specs.Reaction.{reacts}
 use Rattle.central.specs.Step.{rules_of}
@@ -9,22 +10,16 @@ pub returns-in-Idle : goal.returns-in-Idle
 unfolding reacts
 returns-in-Idle c =
     let a = c.args in
-    λ pagers. does_at (λ x d. reacts (rules_of a.settings pagers) d x noise) c.in-Idle.is c.stay.ensures
+    λ pagers. elim c.in-Idle.is [
+      | inl e ↦ does_at (λ x d. reacts (rules_of a.settings pagers) d x noise) e c.stay.ensures
+      | inr e ↦ does_at (λ x d. reacts (rules_of a.settings pagers) d x noise) e c.stay.ensures
+    ]
 
 pub returns-in-Logon : goal.returns-in-Logon
 unfolding reacts
 returns-in-Logon c =
     let a = c.args in
-    λ pagers. does_at (λ x d. reacts (rules_of a.settings pagers) d x noise) c.in-Logon.is (c.fail.ensures pagers)
-
-pub returns-in-Block : goal.returns-in-Block
-unfolding reacts
-returns-in-Block c =
-    let a = c.args in
-    λ pagers. does_at (λ x d. reacts (rules_of a.settings pagers) d x noise) c.in-Block.is (c.fail-in-Block.ensures pagers)
-
-pub returns-in-Closed : goal.returns-in-Closed
-unfolding reacts
-returns-in-Closed c =
-    let a = c.args in
-    λ pagers. does_at (λ x d. reacts (rules_of a.settings pagers) d x noise) c.in-Closed.is c.stay-in-Closed.ensures
+    λ pagers. elim c.in-Logon.is [
+      | inl e ↦ does_at (λ x d. reacts (rules_of a.settings pagers) d x noise) e (c.fail.ensures pagers)
+      | inr e ↦ does_at (λ x d. reacts (rules_of a.settings pagers) d x noise) e (c.fail.ensures pagers)
+    ]

@@ -1,4 +1,5 @@
 -- `step` meets its contract: what the tests refuse leaves state and memory; else the reply moves the device, and the string of the step that it leads to is put out.
+use Rattle.std.specs.Prelude.{None}
 use mathlib.Core.List.{List}
 use mathlib.Core.Path.{◌≡◌, refl, sym, ap, ◌∙◌}
 use Prim.Native.Nat.{ℕ}
@@ -6,9 +7,7 @@ use lib.ListN.{take, drop}
 use Rattle.journal.specs.Survey.{survey_of}
 use Rattle.journal.specs.declared.record.Located.{Located}
 use Rattle.journal.proofs.EncodingLaws.{decode-legal}
-use Rattle.reply.specs.Reading.{reply_read}
-use Rattle.reply.specs.declared.Reply.{Reply}
-use Rattle.reply.specs.declared.remarks.Remarks.TheVariants.{Nothing}
+use Rattle.reply.specs.Reading.{reply_read, Reply}
 use Rattle.device.specs.Inner.{Waits, extent_for, transaction_of}
 use Rattle.device.specs.Reaction.{move_as, moves}
 use Rattle.device.specs.Remarks.{remarks_at}
@@ -51,34 +50,34 @@ module _ (settings : Settings) (step : Step) {job : List ℕ} {room : ℕ} {ts :
 pub part-info-requires : goal.part-info-requires
 part-info-requires c =
     let a = c.args in
-    let (ts, _, passes, same) = surveyed_passes a.settings a.state.step a.job.now _ c.test.ensures c.in-Found.is in
+    let (ts, _, passes, same) = surveyed_passes a.settings a.state.step a.job.now _ c.test.ensures c.in-Ok.is in
     (here-lies a.job.now ts passes.read (transaction_of a.state.step) same).inside
 
 pub moves-next-requires : goal.moves-next-requires
 moves-next-requires c =
     let a = c.args in
-    let (ts, _, passes, same) = surveyed_passes a.settings a.state.step a.job.now _ c.test.ensures c.in-Found.is in
+    let (ts, _, passes, same) = surveyed_passes a.settings a.state.step a.job.now _ c.test.ensures c.in-Ok.is in
     (passes.limit, (ts, ap (λ found. found.count) same, waits_here a.settings a.state.step passes same c.part-info.ensures))
 
 pub part-following-requires : goal.part-following-requires
 part-following-requires c =
     let a = c.args in
-    let (ts, _, passes, same) = surveyed_passes a.settings a.state.step a.job.now _ c.test.ensures c.in-Found.is in
+    let (ts, _, passes, same) = surveyed_passes a.settings a.state.step a.job.now _ c.test.ensures c.in-Ok.is in
     rw c.extent_for-extent.ensures (near-lies a.job.now ts passes.read (transaction_of a.state.step) same (transaction_of c.moves-next.result.step)).inside
 
 pub send-requires : goal.send-requires
 send-requires c =
     let a = c.args in
-    let (ts, _, passes, same) = surveyed_passes a.settings a.state.step a.job.now _ c.test.ensures c.in-Found.is in
+    let (ts, _, passes, same) = surveyed_passes a.settings a.state.step a.job.now _ c.test.ensures c.in-Ok.is in
     let waits = waits_here a.settings a.state.step passes same c.part-info.ensures in
     let moved = rw c.read-heard.ensures at (c.moves-next.ensures ts (ap (λ found. found.count) same) waits) in
     let following = rw c.extent_for-extent.ensures at c.part-following.ensures in
     (passes.password, (ts, waits_next a.settings a.state.step passes same (reply_read a.reply.now) (ap (λ m. m.next) moved) following), passes.fits)
 
-pub returns-in-Found : goal.returns-in-Found
-returns-in-Found c =
+pub returns-in-Ok : goal.returns-in-Ok
+returns-in-Ok c =
     let a = c.args in
-    let (ts, whole, passes, same) = surveyed_passes a.settings a.state.step a.job.now _ c.test.ensures c.in-Found.is in
+    let (ts, whole, passes, same) = surveyed_passes a.settings a.state.step a.job.now _ c.test.ensures c.in-Ok.is in
     let waits = waits_here a.settings a.state.step passes same c.part-info.ensures in
     let moved : move_as c.moves-next.result ≡ moves a.settings ts a.state.step (reply_read a.reply.now) =
     rw c.read-heard.ensures at (c.moves-next.ensures ts (ap (λ found. found.count) same) waits) in
@@ -87,7 +86,7 @@ returns-in-Found c =
     let shown : c.remarks_of-remarks.result ≡ remarks_at a.state.step a.reply.now = rw (c.counted_as.ensures, c.read-heard.ensures) at c.remarks_of-remarks.ensures in
     steps-sent a.settings ts (stepped-done a.state a.settings a.job.now a.reply.now _ ts whole) moved (rw shown at (c.send.ensures ts waits-next))
 
-pub returns-in-Refused : goal.returns-in-Refused
-returns-in-Refused c =
+pub returns-in-Err : goal.returns-in-Err
+returns-in-Err c =
     let a = c.args in
-    steps-refused _ a.state.step _ _ (stepped-refused a.state a.settings a.job.now a.reply.now _ _ (surveyed_refused a.settings a.state.step a.job.now _ c.test.ensures c.in-Refused.is)) refl (c.answer.ensures ∙ ap (answered _ Open Nothing) c.goes.ensures)
+    steps-refused _ a.state.step _ _ (stepped-refused a.state a.settings a.job.now a.reply.now _ _ (surveyed_refused a.settings a.state.step a.job.now _ c.test.ensures c.in-Err.is)) refl (c.answer.ensures ∙ ap (answered _ Open None) c.goes.ensures)

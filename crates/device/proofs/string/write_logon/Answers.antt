@@ -11,5 +11,5 @@ pub returns : goal.returns
 returns c =
     let few = (password-parts c.args.password c.requires.0).0 in
     let six : length c.args.password.characters ≡ 6 = search rules in
-    let begun = logon-begun c.args.password c.args.text.now _ _ (omega arith) (omega arith) c.copy.ensures c.copy-2.ensures in
+    let begun = logon-begun c.args.password c.args.text.now _ _ (omega arith) c.copy_from_slice.ensures.after c.copy_from_slice-2.ensures.after in
     laid-snoc _ 13 begun (omega arith) refl

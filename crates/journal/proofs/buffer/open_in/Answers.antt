@@ -1,18 +1,15 @@
--- `open_in` meets its contract: the tests are those of `in_buffer`.
-use mathlib.Core.Path.{sym, ◌∙◌}
+-- `open_in` meets its contract: the journal in the buffer is opened, and what refuses it stands.
+use Rattle.line.proofs.OutcomeLaws.{handed-refusal}
+use mathlib.Core.Path.{◌∙◌}
 use Rattle.journal.specs.Storage.{trailer_in}
 use Rattle.journal.specs.Walk.{trailer}
-use Rattle.journal.proofs.StorageLaws.{in_wrong, in_past, in_within}
+use Rattle.journal.proofs.StorageLaws.{in_read}
 use Rattle.journal.proofs.buffer.open_in.Goals as goal
 
-pub returns-then-not-is_buffer : goal.returns-then-not-is_buffer
+pub returns-in_err-journal_in : goal.returns-in_err-journal_in
 unfolding trailer_in
-returns-then-not-is_buffer c = in_wrong trailer _ _ (sym c.is_buffer.ensures ∙ c.if-not-is_buffer.true)
-
-pub returns-then-buffer-length : goal.returns-then-buffer-length
-unfolding trailer_in
-returns-then-buffer-length c = in_past trailer _ _ (sym c.is_buffer.ensures ∙ c.if-not-is_buffer.false) c.if-buffer-length.true
+returns-in_err-journal_in c = handed-refusal _ _ c.from_residual.ensures.1 ∙ in_read trailer _ _ _ c.in_err-journal_in.ensures
 
 pub returns : goal.returns
 unfolding trailer_in
-returns c = c.«open».ensures ∙ in_within trailer _ _ (sym c.is_buffer.ensures ∙ c.if-not-is_buffer.false) c.if-buffer-length.false
+returns c = c.«open».ensures ∙ in_read trailer _ _ _ c.in_ok-journal_in.ensures

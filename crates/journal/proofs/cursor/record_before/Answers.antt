@@ -6,7 +6,6 @@ use lib.ListN.{length, take, get_or}
 use Rattle.line.specs.Answer.{done}
 use Rattle.journal.specs.Walk.{last_number}
 use Rattle.journal.proofs.StepLaws.{number_at, place_of_lem, step-short, step-out, step_illegal, step-legal}
-use mathlib.Core.Option.{some}
 use native.Mathlib.Omega.{arith}
 use Rattle.journal.proofs.cursor.record_before.Goals as goal
 
@@ -39,4 +38,4 @@ returns c =
     let part : start + n - start ≡ n = omega arith in
     let right = rw part at (sym c.is_legal.ensures ∙ c.if-not-is_legal.false) in
     rw (step-legal b c.args.end c.requires.0 n (number b _ _ c.requires.0 c.if-end-lt-LENGTH.false c.number_at-n.ensures) c.if-end-n.false right)
-    (ap (λ q. done (some q)) (sym (place_of_lem b c.args.left start n (omega arith))))
+    (ap done (sym (place_of_lem b c.args.left start n (omega arith))))

@@ -1,21 +1,19 @@
 -- `step_back` meets its contract: the tests are those of `step_from`, and a record that is left is looked for before the end.
-use mathlib.Core.Path.{◌∙◌}
-use borrow.Author.Tests.{lt-ltb, le-ltb, eq-eqb, ne_eqb}
+use Rattle.line.proofs.OutcomeLaws.{handed-refusal}
+use mathlib.Core.Path.{sym, ap, ◌∙◌}
+use Rattle.std.specs.Prelude.{Some}
+use Rattle.line.specs.Answer.{map_done}
+use Rattle.journal.proofs.StepLaws.{found-some}
+use borrow.Author.Tests.{le-ltb, ne_eqb}
 use Rattle.journal.specs.Walk.{step_from}
 use Rattle.journal.proofs.cursor.step_back.Goals as goal
 
-pub returns-then-journal-end : goal.returns-then-journal-end
+pub returns-in_err-place : goal.returns-in_err-place
 unfolding step_from
-returns-then-journal-end c = rw (lt-ltb _ _ c.if-journal-end.true)
-
-pub returns-then-end-eq0 : goal.returns-then-end-eq0
-unfolding step_from
-returns-then-end-eq0 c = rw (le-ltb _ _ c.if-journal-end.false, eq-eqb _ 0 c.if-left-eq0.true, eq-eqb _ 0 c.if-end-eq0.true)
-
-pub returns-then-left-eq0 : goal.returns-then-left-eq0
-unfolding step_from
-returns-then-left-eq0 c = rw (le-ltb _ _ c.if-journal-end.false, eq-eqb _ 0 c.if-left-eq0.true, ne_eqb _ 0 c.if-end-eq0.false)
+returns-in_err-place c =
+    handed-refusal _ _ c.from_residual.ensures.1
+    ∙ sym (rw (le-ltb _ _ c.if-journal-end.false, ne_eqb _ 0 c.if-left-eq0.false) (found-some _ _ ∙ ap (map_done (λ q. Some q)) (sym c.in_err-place.ensures)))
 
 pub returns : goal.returns
 unfolding step_from
-returns c = c.record_before.ensures ∙ rw (le-ltb _ _ c.if-journal-end.false, ne_eqb _ 0 c.if-left-eq0.false)
+returns c = sym (rw (le-ltb _ _ c.if-journal-end.false, ne_eqb _ 0 c.if-left-eq0.false) (found-some _ _ ∙ ap (map_done (λ q. Some q)) (sym c.in_ok-place.ensures)))

@@ -1,15 +1,13 @@
 -- `step_at` meets its contract: the cursor goes on lending the whole journal, and stands where so many steps lead.
 use mathlib.Core.Path.{◌≡◌}
-use Prim.Native.Nat.{◌-◌, ◌≤◌}
-use Rattle.journal.specs.Walk.{cursor_at, step_as}
+use Prim.Native.Nat.{◌≤◌}
+use Rattle.line.specs.Answer.{outcome_of}
+use Rattle.journal.specs.Walk.{cursor_at}
 use Rattle.journal.proofs.held.step_at.Given as goal
 
-abbrev pub invariant-loop-i : goal.invariant-loop-i
-invariant-loop-i l = record {
-  within : l.i ≤ l.index;
+abbrev pub invariant-loop : goal.invariant-loop
+invariant-loop l = record {
+  within : l.counter ≤ l.index;
   lent : l.cursor.journal.now ≡ l.journal;
-  stands : step_as l.cursor.at ≡ cursor_at l.journal l.i;
+  stands : outcome_of l.cursor.at ≡ cursor_at l.journal l.counter;
 }
-
-abbrev pub decreases-loop-i : goal.decreases-loop-i
-decreases-loop-i l = l.index - l.i

@@ -1,5 +1,6 @@
+use Rattle.line.proofs.OutcomeLaws.{handed-refusal}
 use mathlib.Core.Path.{sym, ap, ◌∙◌}
-use Rattle.journal.specs.Walk.{step_as}
+use Rattle.line.specs.Answer.{done}
 use Rattle.journal.proofs.CursorLaws.{step-place}
 use Rattle.journal.proofs.SurveyLaws.{noted-none, noted-found, noted-next, noted-all, noted-refused}
 use native.Mathlib.Omega.{arith}
@@ -10,24 +11,24 @@ loop-place-init c = noted-none _ _ _ c.requires
 
 pub loop-place-smaller-then-at-index : goal.loop-place-smaller-then-at-index
 loop-place-smaller-then-at-index c =
-    let s = step-place _ _ _ (sym c.step_back-step.ensures ∙ ap step_as c.in-Record.is) in
+    let s = step-place _ _ _ (sym c.in_ok-place.ensures ∙ ap (λ p. done p) c.in-Some.is) in
     omega arith
 
 pub loop-place-preserved-then-at-index : goal.loop-place-preserved-then-at-index
 loop-place-preserved-then-at-index c =
-    noted-found _ _ _ _ _ _ _ c.loop-place.invariant _ (sym c.step_back-step.ensures ∙ ap step_as c.in-Record.is) c.if-at-index.true
+    noted-found _ _ _ _ _ _ _ c.loop-place.invariant _ (sym c.in_ok-place.ensures ∙ ap (λ p. done p) c.in-Some.is) c.if-at-index.true
 
 pub loop-place-smaller : goal.loop-place-smaller
 loop-place-smaller c =
-    let s = step-place _ _ _ (sym c.step_back-step.ensures ∙ ap step_as c.in-Record.is) in
+    let s = step-place _ _ _ (sym c.in_ok-place.ensures ∙ ap (λ p. done p) c.in-Some.is) in
     omega arith
 
 pub loop-place-preserved : goal.loop-place-preserved
 loop-place-preserved c =
-    noted-next _ _ _ _ _ _ _ c.loop-place.invariant _ (sym c.step_back-step.ensures ∙ ap step_as c.in-Record.is) c.if-at-index.false
+    noted-next _ _ _ _ _ _ _ c.loop-place.invariant _ (sym c.in_ok-place.ensures ∙ ap (λ p. done p) c.in-Some.is) c.if-at-index.false
 
-pub returns-in-End : goal.returns-in-End
-returns-in-End c = noted-all _ _ _ _ _ _ _ c.loop-place.invariant (sym c.step_back-step.ensures ∙ ap step_as c.in-End.is)
+pub returns-in_err-place : goal.returns-in_err-place
+returns-in_err-place c = handed-refusal _ _ c.from_residual.ensures.1 ∙ noted-refused _ _ _ _ _ _ _ c.loop-place.invariant _ (sym c.in_err-place.ensures)
 
-pub returns-in-Refused : goal.returns-in-Refused
-returns-in-Refused c = noted-refused _ _ _ _ _ _ _ c.loop-place.invariant _ (sym c.step_back-step.ensures ∙ ap step_as c.in-Refused.is)
+pub returns : goal.returns
+returns c = noted-all _ _ _ _ _ _ _ c.loop-place.invariant (sym c.in_ok-place.ensures ∙ ap (λ p. done p) c.in_default.is)

@@ -1,10 +1,7 @@
--- `ends_in_cr` meets its contract: the end is the character at the last place.
-use mathlib.Core.Path.{sym}
-use Rattle.line.proofs.TransactionLaws.{ends-none, ends_last}
+-- `ends_in_cr` meets its contract: the library's test of the end is that of the last character.
+use mathlib.Core.Path.{◌∙◌}
+use Rattle.line.proofs.TransactionLaws.{ends_with-cr}
 use Rattle.line.proofs.transaction.ends_in_cr.Goals as goal
 
-pub returns-then-n-eq0 : goal.returns-then-n-eq0
-returns-then-n-eq0 c = sym (ends-none _ c.if-n-eq0.true)
-
 pub returns : goal.returns
-returns c = sym (ends_last _)
+returns c = c.ends_with.ensures.value ∙ ends_with-cr c.args.text.now

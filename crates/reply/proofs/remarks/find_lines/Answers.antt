@@ -36,4 +36,4 @@ pub returns : goal.returns
 returns c =
     let l = c.loop-i in
     let bytes = c.args.bytes.now in
-    c.shown-2.ensures ∙ sym (l.invariant.2 ∙ shows-end l.search bytes l.i c.loop-i-test.false)
+    c.shown-2.ensures ∙ sym (l.invariant.2 ∙ shows-end l.search bytes l.i l.invariant.0 c.loop-i-test.false)

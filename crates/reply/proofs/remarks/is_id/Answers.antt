@@ -9,8 +9,8 @@ use Rattle.reply.proofs.TextLaws.{begins-short}
 use borrow.Author.Rules.{rules}
 use Rattle.reply.proofs.remarks.is_id.Goals as goal
 
-pub returns-then-line-lt2 : goal.returns-then-line-lt2
-returns-then-line-lt2 c = begins-short (bytes_of "ID") (map seven_bits c.args.line.now) (rw length-map c.if-line-lt2.true)
+pub returns-in_default : goal.returns-in_default
+returns-in_default c = begins-short (bytes_of "ID") (map seven_bits c.args.line.now) (rw length-map c.in_default.len_below)
 
 pub returns : goal.returns
 returns c = sym (id_begins c.args.line.now (search rules))

@@ -1,13 +1,9 @@
--- `complete_fields` meets its contract: what is found is the last CR; until then none stands behind the characters that are left.
+-- `complete_fields` meets its contract: behind more characters than are left to be looked at no field is complete.
 use mathlib.Core.Path.{◌≡◌}
 use Prim.Native.Nat.{◌≤◌, min}
 use lib.ListN.{length}
 use Rattle.segmentation.specs.Segmentation.{complete}
-use Rattle.segmentation.proofs.WholeFieldsLaws.{sought}
 use Rattle.segmentation.proofs.way.complete_fields.Given as goal
 
-abbrev pub invariant-loop-found : goal.invariant-loop-found
-invariant-loop-found l = (l.n ≤ length l.rest) × (min (length l.rest) (complete 250 l.rest) ≡ sought l.found (complete l.n l.rest))
-
-abbrev pub decreases-loop-found : goal.decreases-loop-found
-decreases-loop-found l = l.n
+abbrev pub invariant-loop-n : goal.invariant-loop-n
+invariant-loop-n l = (l.n ≤ length l.rest) × (min (length l.rest) (complete 250 l.rest) ≡ complete l.n l.rest)

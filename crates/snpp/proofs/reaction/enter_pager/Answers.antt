@@ -1,10 +1,10 @@
 -- `enter_pager` meets its contract: a text that is no pager ID changes nothing; a pager ID is copied over zeros.
 use mathlib.Core.Bool.{true}
-use mathlib.Core.Path.{◌≡◌, sym, ◌∙◌}
-use Rattle.line.proofs.CopyLaws.{copied-laid}
+use mathlib.Core.Path.{◌≡◌, refl, sym, ◌∙◌}
+use mathlib.Core.List.{◌++◌}
+use lib.ListN.{length, drop}
 use Rattle.line.specs.Answer.{overlay}
 use Rattle.admission.specs.Content.{is_pager_id}
-use Rattle.snpp.proofs.StateLaws.{pager-short}
 use Rattle.snpp.specs.State.{no_digits}
 use Rattle.snpp.proofs.reaction.enter_pager.Goals as goal
 
@@ -13,6 +13,5 @@ unfolding no_digits
 returns c =
     let id : is_pager_id c.args.text.now ≡ true = sym c.is_pager_id.ensures ∙ c.if-not-is_pager_id.false in
     let text = c.args.text.now in
-    let fits = pager-short text id in
-    let laid : c.copy.new.out ≡ overlay text no_digits = copied-laid text no_digits c.copy.new.out fits c.copy.ensures in
+    let laid : c.copy_from_slice.new.self ++ drop (length text) no_digits ≡ overlay text no_digits = unfold overlay in rw c.copy_from_slice.ensures.after refl in
     c.stay-2.ensures ∙ rw (id, laid)

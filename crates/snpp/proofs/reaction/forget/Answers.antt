@@ -5,4 +5,4 @@ use Rattle.snpp.proofs.reaction.forget.Goals as goal
 
 pub returns : goal.returns
 unfolding no_digits no_text
-returns c = (refl, c.clear.ensures ∙ rw c.requires)
+returns c = (refl, c.fill.ensures.after (λ y e. e) ∙ rw c.requires)

@@ -1,16 +1,15 @@
 -- `offer` meets its contract: what is over 2,000 characters is not admitted; else pager ID, CR, message and CR, laid one behind the other, are the transaction that is offered.
 use mathlib.Core.List.{List, [], ◌∷◌, ◌++◌}
-use mathlib.Core.Path.{◌≡◌, refl, sym, ◌∙◌}
+use mathlib.Core.Path.{◌≡◌, refl, sym}
 use Prim.Native.Nat.{ℕ, ◌+◌, ◌-◌, ◌≤◌}
 use native.Mathlib.Omega.{arith}
 use borrow.Rule.Slice.PartMut.{put_mid}
-use lib.ListN.{length, take, drop, replicate, set, length-append, length-replicate}
+use lib.ListN.{length, drop, replicate, set, length-append, length-replicate}
 use Rattle.line.proofs.AllLaws.{all-bytes}
-use Rattle.line.proofs.CopyLaws.{copied-laid, copied-part}
-use Rattle.line.proofs.LaidLaws.{laid-length, laid-snoc, laid-start}
-use Rattle.line.specs.Answer.{Laid, Wrote, copied, overlay}
+use Rattle.line.proofs.CopyLaws.{copied-behind}
+use Rattle.line.proofs.LaidLaws.{laid-snoc, laid-start}
+use Rattle.line.specs.Answer.{Laid, overlay}
 use Rattle.line.specs.Character.{CR}
-use Rattle.line.specs.declared.answer.Written.{Written}
 use Rattle.snpp.proofs.OfferLaws.{page-length, page-joined, pager-printable, page-legal, offers-long, offers-admitted}
 use Rattle.snpp.specs.Reaction.{page_of}
 use borrow.Author.Rules.{rules}
@@ -31,16 +30,16 @@ module _ (p m : List ℕ) (fits : length p + length m + 2 ≤ 2000) where
       let laid : Laid p (length p) zeros one = record { counts = refl; leaves = e } in
       laid-snoc (length p + 1) CR laid (omega (arith, zeros-length)) refl
 
-  -- the array keeps its length, and the whole page is laid
-  whole : {r : Written} {out two : List ℕ} → let n = length p + 1 in Laid (p ++ CR ∷ []) n zeros out →
-      Wrote (copied m (length (take (2000 - n) (drop n out)))) r (take (2000 - n) (drop n out)) two →
-      Laid (page_of p m) (length p + length m + 2) zeros (set (put_mid n (2000 - n) out two) (length p + length m + 2 - 1) CR)
-  whole {r} {out} {two} front w =
+  -- the whole page is laid
+  whole : {out two : List ℕ} → let n = length p + 1 in Laid (p ++ CR ∷ []) n zeros out → two ≡ m →
+      Laid (page_of p m) (length p + length m + 2) zeros (set (put_mid n (length p + length m + 2 - 1 - n) out two) (length p + length m + 2 - 1) CR)
+  whole {out} {two} front e =
       let n = length p + 1 in
-      let size : length out ≡ 2000 = laid-length front (omega (arith, zeros-length)) ∙ zeros-length in
-      let behind = rw size at (copied-part {r = r} (p ++ CR ∷ []) m zeros out two n front.leaves (sym front.counts) (omega (arith, zeros-length)) (rw size w)) in
-      let laid : Laid ((p ++ CR ∷ []) ++ m) (length p + length m + 2 - 1) zeros (put_mid n (2000 - n) out two) =
-      record { counts = omega (arith, length-append (p ++ CR ∷ []) m, front.counts); leaves = behind } in
+      let laid : Laid ((p ++ CR ∷ []) ++ m) (length p + length m + 2 - 1) zeros (put_mid n (length p + length m + 2 - 1 - n) out two) =
+      record {
+        counts = omega (arith, length-append (p ++ CR ∷ []) m, front.counts);
+        leaves = copied-behind (p ++ CR ∷ []) m zeros out two n _ front.leaves (sym front.counts) (omega arith) e;
+      } in
       rw (page-joined p m) at (laid-snoc (length p + length m + 2) CR laid (omega (arith, zeros-length)) (omega arith))
 
 pub returns-then-n-gt-MOST_INFORMATION : goal.returns-then-n-gt-MOST_INFORMATION
@@ -54,8 +53,10 @@ returns c =
     let a = c.args in
     let p = c.requires in
     let fits = c.if-n-gt-MOST_INFORMATION.false in
-    let front = first a.pager.now a.message.now fits (copied-laid a.pager.now zeros c.copy.new.out (omega (arith, zeros-length)) c.copy.ensures) in
+    let lies : c.copy_from_slice.new.self ++ drop (length a.pager.now) zeros ≡ overlay a.pager.now zeros = unfold overlay in rw c.copy_from_slice.ensures.after refl in
+    let front = first a.pager.now a.message.now fits lies in
     let long = page-length a.pager.now a.message.now in
     let good = page-legal a.pager.now a.message.now (pager-printable a.pager.now p.1) p.2 (omega arith) in
-    offers-admitted a.longest a.pagers.now a.journal.now a.length a.pager.now a.message.now (all-bytes a.journal.now (search rules)) p.4 good
-    (rw (laid-start (whole a.pager.now a.message.now fits front c.copy-2.ensures)) at c.admit.ensures)
+    rw c.unwrap_or.ensures
+    (offers-admitted a.longest a.pagers.now a.journal.now a.length a.pager.now a.message.now (all-bytes a.journal.now (search rules)) p.4 good
+    (rw (laid-start (whole a.pager.now a.message.now fits front c.copy_from_slice-2.ensures.after)) at c.admit.ensures))

@@ -2,5 +2,5 @@
 use Rattle.std.proofs.Common.{◌-◌, length}
 use Rattle.vectors.proofs.framing.feed_piece.Given as goal
 
-abbrev pub decreases-loop-next : goal.decreases-loop-next
-decreases-loop-next g l = length l.piece - l.from
+abbrev pub decreases-loop-far : goal.decreases-loop-far
+decreases-loop-far g l = length l.piece - l.from

@@ -1,9 +1,0 @@
--- `digest` is safe.
-use Rattle.std.proofs.Common.{◌≤◌, length}
-use Rattle.vectors.proofs.answer.digest.Given as goal
-
-abbrev pub invariant-loop-i : goal.invariant-loop-i
-invariant-loop-i l = l.i ≤ length l.bytes
-
-abbrev pub decreases-loop-i : goal.decreases-loop-i
-decreases-loop-i l = l.i
