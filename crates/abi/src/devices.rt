@@ -200,6 +200,7 @@ fn fill(step: u8, place: Place) -> DeviceState
     }
 }
 
+// 0 for none, as C has it: the record has no place for an Option.
 fn verdict_in(given: Option<Given>) -> u8
     ensures { result ≡ verdict_in given }
 {
@@ -209,6 +210,7 @@ fn verdict_in(given: Option<Given>) -> u8
     }
 }
 
+// 0 for none, as above.
 fn transaction_in(given: Option<Given>) -> usize
     ensures { result ≡ transaction_in given }
 {

@@ -34,7 +34,7 @@ pub extern "C" fn tyntolai_framer_feed(state: Framer, bytes: &[u8], out: &mut [u
 {
     let fed = feed(state, bytes, out);
     FramerFed {
-        answer: of_framed(fed.outcome),
+        answer: Answer::from(fed.outcome),
         used: fed.used,
         state: fed.state,
     }
@@ -55,14 +55,16 @@ pub extern "C" fn tyntolai_framer_flush(state: Framer, out: &mut [u8]) -> Framer
 }
 
 // What feeding answers, in numbers.
-fn of_framed(outcome: Result<Option<usize>, Refusal>) -> Answer
-    ensures { result ≡ framed_answer (outcome_of outcome) }
-{
-    match outcome {
-        Ok(string) => Answer {
-            count: string.unwrap_or(0),
-            code: 0,
-        },
-        Err(refusal) => Answer::from(refusal),
+impl From<Result<Option<usize>, Refusal>> for Answer {
+    ghost from_gives = { λ outcome answer. answer ≡ framed_answer (outcome_of outcome) };
+
+    fn from(outcome: Result<Option<usize>, Refusal>) -> Answer {
+        match outcome {
+            Ok(string) => Answer {
+                count: string.unwrap_or(0),
+                code: 0,
+            },
+            Err(refusal) => Answer::from(refusal),
+        }
     }
 }

@@ -14,6 +14,7 @@ impl From<Password> for line::Password {
     ghost from_gives = { λ lent password. password ≡ password_of lent };
 
     fn from(password: Password) -> line::Password {
+        // An array that is handed straight on the borrow checker does not cover.
         let characters = password.characters;
         line::Password {
             characters,

@@ -56,6 +56,7 @@ fn has_content(info: &[u8], longest: usize, pagers: &[u32]) -> bool
 }
 
 // How many fields: each ends in CR.
+// A `for`: `filter` and `count` were tried, and took a third more on 2,000 characters.
 fn count_fields(info: &[u8]) -> usize
     ensures { result ≡ field_count info.now }
 {
@@ -103,6 +104,7 @@ pub fn is_pager_id(field: &[u8]) -> bool
 }
 
 // The number that so few digits write.
+// Digits alone come here, so that nothing can fail as `parse` can.
 fn number(digits: &[u8]) -> u32
     requires { (ListN.length digits.now ≤ 8) × (all digit digits.now ≡ true) }
     ensures { result ≡ number_from 0 digits.now }

@@ -109,6 +109,7 @@ pub fn read(s: &[u8]) -> Result<Ending, Refusal>
 
 // The information of the block that the string is: the very part of it that follows STX. Nothing
 // where it is refused.
+// An empty part and no Option: `Handed` says which part it is.
 pub fn information(s: &[u8]) -> &[u8]
     ensures { Handed (read_block s.now) s.entry.ref_ptr result.now result.ref_ptr }
 {
@@ -200,7 +201,7 @@ fn is_summed(s: &[u8]) -> bool
     (s[n - 4] == check[0]) & ((s[n - 3] == check[1]) & (s[n - 2] == check[2]))
 }
 
-// Both ends are asked, as in every test of bytes.
+// Both ends are asked, as in every test of bytes. One line, as `in_span` of `line` is, which is not handed out.
 fn is_check(c: u8) -> bool
     ensures { result ≡ checking c }
 {

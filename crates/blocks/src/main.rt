@@ -1,5 +1,6 @@
 // Reads lines from standard input and prints the blocks of each. What a line prints is
-// `listing::list`; this program only moves bytes, in large pieces.
+// `listing::list`; this program only moves bytes, in large pieces. The room of its
+// output is asked of a list that the definitions take whole.
 #![tactic(auto)]
 
 ghost use Rattle.std.specs.Prelude.{List, [], ◌++◌, ◌≡◌, ℕ, ◌≤◌, length, take, IfOk, OnErr};
@@ -146,7 +147,7 @@ fn print_all<R: Read, W: Write>(from: &mut R, to: &mut W, out: &mut [u8]) -> io:
 }
 
 // Room for a large piece of what is read or written. The `ensures` gives only the length, which
-// lending the array needs.
+// lending the array needs. `vectors` has the same: programs share no crate.
 fn large_buffer() -> [u8; 65536]
     ensures { 65536 ≡ length result }
 {

@@ -1,4 +1,5 @@
-// One transmission: a string of the device over the line, and the central's answer.
+// One transmission: a string of the device over the line, and the central's answer. What is lent goes
+// apart: of a struct that holds a `&mut` a contract names what was left by place and not by name.
 ghost use Rattle.std.specs.Prelude.{List, map, ◌≡◌, length};
 ghost use Rattle.central.specs.Lent.{state_of, stepped_in, whole_of};
 ghost use Rattle.central.specs.Step as CentralStep;

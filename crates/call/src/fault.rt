@@ -37,7 +37,7 @@ impl Test for Fault {
     }
 }
 
-// The fault of a transmission; past the end of the list it is 0.
+// The fault of a transmission; past the end of the list it is 0. `vectors` has the like of one line.
 pub(crate) fn fault_at(faults: &[u8], index: usize) -> u8
     ensures { result ≡ get_or faults.now index 0 }
 {
@@ -73,7 +73,7 @@ pub(crate) fn arrive(part: Part, string: &mut [u8]) -> usize
     }
 }
 
-// A byte with bit 7 flipped.
+// A byte with bit 7 flipped: the library's method, under the name that a definition has.
 fn flip(b: u8) -> u8
     ensures { result ≡ flip_top b }
 {

@@ -1,4 +1,4 @@
-// The run of both ends over a list of line faults.
+// The run of both ends over a list of line faults. `Ready` is a record of facts already.
 ghost use Rattle.std.specs.Prelude.{◌≡◌};
 ghost use Rattle.std.proofs.Math.ListN as ListN;
 ghost use Rattle.call.specs.Call.{Runs, called, setup};

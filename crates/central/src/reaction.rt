@@ -1,4 +1,5 @@
-// What the central does with a text, stage by stage.
+// What the central does with a text, stage by stage. Settings and control are public records that hold
+// anything, so what is right of them is asked for and in no type; `Ready` is a record of facts already.
 ghost use Rattle.std.specs.Prelude.{true, List, [], ◌++◌, ◌≡◌, ℕ, ◌+◌, ◌≤◌};
 ghost use Rattle.std.proofs.Math.ListN as ListN;
 ghost use Rattle.line.specs.Answer.{Laid};
@@ -30,7 +31,8 @@ pub struct Reacted {
     pub control: Control,
 }
 
-// What no step changes: the settings, and the pager list.
+// What no step changes: the settings, and the pager list. `snpp` has the same over settings of its own: two
+// fields, and below both there is no crate that knows of settings.
 #[derive(Clone, Copy)]
 pub struct Setup<'a> {
     pub settings: Settings,
@@ -176,7 +178,7 @@ fn conclude(
     store(control, setup, journal, &whole[..n])
 }
 
-// Both texts, one behind the other, at the start of the output.
+// Both texts, one behind the other, at the start of the output. `framer` has these two lines too, over its records.
 fn join(first: &[u8], second: &[u8], out: &mut [u8]) -> usize
     requires { ListN.length first.now + ListN.length second.now ≤ ListN.length out.old }
     ensures { Laid (first.now ++ second.now) result out.old out.new }

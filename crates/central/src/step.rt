@@ -76,7 +76,7 @@ pub fn control_of(state: State) -> Control
     }
 }
 
-// What a step answers, with the unfinished information behind it.
+// What a step answers, with the unfinished information behind it: of two values, so no `From`.
 pub fn join(moved: Moved, pending: [u8; 2000]) -> Stepped
     ensures { result ≡ whole_of moved pending }
 {

@@ -16,6 +16,7 @@ pub(crate) enum Choice {
 }
 
 // The record of this rank from the newest, which has 1, is chosen.
+// One arm is false and two test: a match, and no equality.
 pub(crate) fn is_chosen(choice: Choice, rank: usize, info: &[u8]) -> bool
     ensures { result ≡ is_chosen choice rank info.now }
 {

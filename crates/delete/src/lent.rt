@@ -13,6 +13,7 @@ use central::{Control, Moved, Stage};
 use line::Refusal;
 
 // Without the n-th record from the newest, which is 1, and the control over the shorter journal.
+// README names both, and each hands its choice on: one line each.
 pub fn delete(control: Control, journal: &mut [u8], n: usize) -> Moved
     ensures { DeletesIn (λ s. deleted s journal.old n) control result journal.old journal.new }
 {

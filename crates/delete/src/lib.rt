@@ -12,6 +12,7 @@ use central::step::{control_of, join};
 use central::{State, Stepped};
 
 // Without the n-th record from the newest, which is 1, and the state over the shorter journal.
+// README offers both ways of keeping a state: this is `lent::delete`, and `delete_pager` is the like.
 pub fn delete(state: State, journal: &mut [u8], n: usize) -> Stepped
     ensures { Deletes (deleted state journal.old n) state result journal.old journal.new }
 {

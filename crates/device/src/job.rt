@@ -12,6 +12,7 @@ use segmentation::way::is_cuttable;
 
 // No field of a job is too long for the way. The job is a journal lent at its exact length; of one
 // that is not well formed nothing is found.
+// One arm is true and the other tests: a match, and no equality.
 pub fn cuts_all(way: Way, job: &[u8]) -> bool
     ensures { result ≡ cuts_all way (output (decode job.now)) }
 {

@@ -20,6 +20,7 @@ pub fn settings_in_range(settings: Settings) -> bool
 }
 
 // The attempts of a saved step are 1 to the step's most.
+// One arm is true and the others test: a match, and no equality.
 pub(crate) fn step_in_range(settings: Settings, step: Step) -> bool
     requires { settings.retries ≤ 9 }
     ensures { result ≡ step_in_range settings step }
@@ -42,6 +43,7 @@ fn attempts_in_range(most: usize, place: Place) -> bool
 
 // The transaction and block of a saved step exist in a job of so many transactions, of which this
 // is the step's.
+// One arm is true and the others test: a match, and no equality.
 pub(crate) fn place_exists(settings: Settings, count: usize, info: &[u8], step: Step) -> bool
     ensures { (job : List (List ℕ)) → length job ≡ count → SendsOf job step info.now →
         result ≡ exists settings job step }

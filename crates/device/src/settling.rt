@@ -39,7 +39,7 @@ fn doubt(verdicts: &mut [u8])
     }
 }
 
-// The number of a verdict that is put in doubt.
+// The number of a verdict that is put in doubt. Numbers, since `settle` is lent what C keeps.
 fn doubted(number: u8) -> u8
     ensures { result ≡ Settling.doubted_number number }
 {

@@ -1,4 +1,5 @@
-// The string that a step sends, with parity.
+// The string that a step sends, with parity. The output's 256 bytes are asked of a list that the
+// definitions take whole, so no type holds them; and so in `step`.
 ghost use Rattle.std.specs.Prelude.{true, List, map, ◌≡◌, ℕ, ◌≤◌, ◌<◌, length};
 ghost use Rattle.line.specs.Answer.{Laid};
 ghost use Rattle.line.specs.Character.{seven};

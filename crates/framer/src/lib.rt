@@ -131,6 +131,7 @@ fn begin(bytes: &[u8], out: &mut [u8]) -> Fed
 }
 
 // Bytes behind what is held of a string; so many were used before them.
+// The 256 bytes of output are asked of a list that the definitions take whole.
 fn go_on(held: &[u8], bytes: &[u8], before: usize, out: &mut [u8]) -> Fed
     requires { Begun held.now out.old × (before + ListN.length bytes.now < 2 ^ 63) }
     ensures { Feeds
@@ -156,7 +157,7 @@ fn go_on(held: &[u8], bytes: &[u8], before: usize, out: &mut [u8]) -> Fed
     }
 }
 
-// Both are held, one behind the other.
+// Both are held, one behind the other. `go_on` and `central` have these two lines too, over other records.
 fn hold(held: &[u8], bytes: &[u8]) -> Framer
     requires { ListN.length held.now + ListN.length bytes.now ≤ 256 }
     ensures { result ≡ state_of (held.now ++ bytes.now) }

@@ -103,7 +103,7 @@ fn record_before(journal: &[u8], end: usize, left: usize) -> Result<Place, Refus
     })
 }
 
-// A number in two bytes, high first.
+// A number in two bytes, high first: `from_be_bytes`, under a name, since three ask for it.
 fn number_at(bytes: &[u8], at: usize) -> usize
     requires { at + 2 ≤ length bytes.now }
     ensures { result ≡ get_or bytes.now at 0 * 256 + get_or bytes.now (at + 1) 0 }

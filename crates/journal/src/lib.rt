@@ -1,5 +1,6 @@
 // The journal of stored transactions (document 01's book): records, each with its length behind it,
-// and a trailer that points back.
+// and a trailer that points back. A buffer and the length in use are two arguments: C and a file hand
+// them over so.
 #![tactic(auto)]
 
 pub mod buffer;

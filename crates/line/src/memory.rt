@@ -27,7 +27,7 @@ pub fn find(bytes: &[u8], from: usize, byte: u8) -> usize
     seek(bytes, from, Is { byte })
 }
 
-// The two hold the same bytes.
+// The two hold the same bytes: `==`, under the name that README and contracts have.
 pub fn is_same(bytes: &[u8], other: &[u8]) -> bool
     ensures { result ≡ same bytes.now other.now }
 {

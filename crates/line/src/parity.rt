@@ -78,6 +78,7 @@ fn take_parity(line: &[u8], out: &mut [u8])
     }
 }
 
+// The named form of document 01, by `count_ones`.
 fn with_parity(c: u8) -> u8
     requires { c < 0x80 }
     ensures { result ≡ with_parity c }

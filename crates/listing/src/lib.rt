@@ -1,4 +1,5 @@
-// What the program `blocks` prints for one line of its input.
+// What the program `blocks` prints for one line of its input. An output and the place where it goes on
+// are lent apart, and its room is asked of a list that the definitions take whole.
 #![tactic(auto)]
 
 ghost use Rattle.std.specs.Prelude.{true, ◌≡◌, ◌+◌, ◌-◌, ◌%◌, ◌<◌, ◌≤◌, ltb, length, set, if◌then◌else◌};

@@ -15,6 +15,7 @@ pub enum Way {
 }
 
 // No field is too long for the way.
+// One arm is true and the other tests: a match, and no equality.
 pub fn is_cuttable(way: Way, info: &[u8]) -> bool
     ensures { result ≡ cuttable way info.now }
 {

@@ -53,6 +53,7 @@ pub(crate) fn put_answer(answer: Answer, out: &mut [u8]) -> Result<usize, Refusa
 }
 
 // RFC 1861's number of an answer; none where nothing is answered.
+// It is one of RFC 1861 and of this file alone: no `From`, since nothing else asks for it.
 fn number(answer: Answer) -> Option<usize>
     ensures { result ≡ answer_number (answer_of answer) }
 {

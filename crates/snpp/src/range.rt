@@ -39,6 +39,7 @@ fn holds_text(array: &[u8], length: usize, class: Class) -> bool
 }
 
 // A pager ID of so many digits and a message of so many characters may be held at the stage.
+// One arm is true and the others test: a match, and no equality.
 fn has_lengths(stage: Stage, digits: usize, length: usize) -> bool
     ensures { result ≡ fits stage digits length }
 {

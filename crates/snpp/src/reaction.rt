@@ -1,4 +1,5 @@
-// What the gateway does with a line, once it may be read.
+// What the gateway does with a line, once it may be read. `Ready` is a record of facts already: no type
+// of its own would say it shorter.
 ghost use Rattle.std.specs.Prelude.{true, false, ◌≡◌, ◌≤◌, Some};
 ghost use Rattle.std.proofs.Math.ListN as ListN;
 ghost use Rattle.line.specs.Character.{printable};
@@ -24,7 +25,8 @@ pub struct Reacted {
     pub journal: usize,
 }
 
-// What no step changes: the settings, and the pager list.
+// What no step changes: the settings, and the pager list. `central` has the same over settings of its own: two
+// fields, and below both there is no crate that knows of settings.
 #[derive(Clone, Copy)]
 pub struct Setup<'a> {
     pub settings: Settings,

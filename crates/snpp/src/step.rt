@@ -46,6 +46,7 @@ pub fn step(
 {
     let mut message = state.message;
     let pager = state.pager;
+    // The state is taken apart and put together here: its 2 KB go through no `From`.
     let control = Control {
         stage: state.stage,
         pager,

@@ -40,6 +40,7 @@ pub(crate) fn letter_of(call: &[u8]) -> u8 {
 }
 
 // The way of cutting that the letter names.
+// A letter of the calls' file, read once, for another crate's enum: no `TryFrom`.
 pub(crate) fn way_of(call: &[u8]) -> Way {
     if byte(call, LETTER) % 128 < b'a' {
         return Way::WholeFields;
@@ -48,6 +49,7 @@ pub(crate) fn way_of(call: &[u8]) -> Way {
 }
 
 // When an accepted verdict stands, as the letter names it.
+// A letter, as above.
 pub(crate) fn confirmation_of(call: &[u8]) -> Confirmation {
     if byte(call, LETTER) < 0x80 {
         return Confirmation::Early;
@@ -92,7 +94,7 @@ pub(crate) fn number_at(memory: &[u8], at: usize) -> usize
     usize::from(u16::from_be_bytes([byte(memory, at), byte(memory, at + 1)]))
 }
 
-// The byte at a place; 0 behind the end.
+// The byte at a place; 0 behind the end. `call` has the like of one line.
 pub(crate) fn byte(memory: &[u8], at: usize) -> u8 {
     memory.get(at).copied().unwrap_or(0)
 }
@@ -114,7 +116,8 @@ pub(crate) fn decode(line: &[u8], memory: &mut [u8])
     }
 }
 
-// Puts the bytes of a run into memory, and into the table where they end.
+// Puts the bytes of a run into memory, and into the table where they end. A run may go past the
+// end and come round, as no method of slices does.
 fn put(run: Run, place: Place, memory: &mut [u8]) -> Place
     requires { 65536 ≡ length memory.old }
 {

@@ -82,7 +82,7 @@ fn lend<W: Write>(to: &mut W, call: &[u8]) -> io::Result<()> {
 }
 
 // So many bytes of one kind. The `ensures` gives only the length, which lending the array needs.
-fn filled(byte: u8) -> [u8; 65536]
+pub(crate) fn filled(byte: u8) -> [u8; 65536]
     ensures { 65536 ≡ length result }
 {
     [byte; 65536]
@@ -251,7 +251,7 @@ fn print_sums<W: Write>(to: &mut W, call: &[u8]) -> io::Result<()> {
     print_bytes(to, NOTHING, &check)
 }
 
-// The sum with a piece more, a character at a time.
+// The sum with a piece more, a character at a time, as a caller would: not by `checksum`, which it is compared with.
 fn add_piece(sum: u16, piece: &[u8]) -> u16 {
     let mut sum = sum;
     for &character in piece {
@@ -339,7 +339,8 @@ fn print_walk<W: Write>(to: &mut W, text: &[u8]) -> io::Result<()> {
     Ok(())
 }
 
-// The record that a walk stands at, or why it has ended; and whether it goes on.
+// The record that a walk stands at, or why it has ended; and whether it goes on, which is
+// asked once: no plainer as an enum.
 fn print_place<W: Write>(
     to: &mut W,
     journal: &[u8],

@@ -46,8 +46,7 @@ fn print_deletion<W: Write>(
     lay(begin, journal);
     let state = saved_central(call, STAGE);
     let deleted = delete_by(deletion, state, journal);
-    let outcome = deleted.outcome;
-    print_count(to, outcome)?;
+    print_count(to, deleted.outcome)?;
     print_state(to, state, deleted.state)?;
     print_change(to, begin, journal)
 }

@@ -48,15 +48,14 @@ fn drive<W: Write>(
 ) -> io::Result<device::State> {
     let settings = device_settings(call, 1);
     let stepped = device::step::step(state, settings, word(call, JOB), reply, string);
-    let given = stepped.given;
     let standing = stepped.standing;
-    note(given, verdicts);
+    note(stepped.given, verdicts);
     settle(standing, verdicts);
     say(to, standing_name(standing))?;
     Ok(stepped.state)
 }
 
-// A verdict that is given is put in its place.
+// A verdict that is given is put in its place. `call` has the same; a second caller leans on nothing of it.
 fn note(given: Option<Given>, verdicts: &mut [u8]) {
     let Some(given) = given else {
         return;

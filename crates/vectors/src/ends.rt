@@ -31,14 +31,14 @@ const DEVICE: u8 = 8;
 // Room for pager numbers, one more than a list may have.
 pub(crate) const PAGERS: usize = 1001;
 
-// ── The central ──
-
-// The state before the first string, and which argument is the last before it.
+// The state of an end before the first string or reply, and which argument is the last before it.
 #[derive(Clone, Copy)]
-struct Heard {
-    state: central::State,
-    before: u8,
+pub(crate) struct Begun<S> {
+    pub(crate) state: S,
+    pub(crate) before: u8,
 }
+
+// ── The central ──
 
 // The pager list in the bytes, four for each number.
 pub(crate) fn list_pagers(numbers: &[u8]) -> [u32; PAGERS] {
@@ -78,16 +78,16 @@ pub(crate) fn print_conversation<W: Write>(
 }
 
 // From the start, or from the state that the call gives.
-fn first_heard(call: &[u8]) -> Heard {
+fn first_heard(call: &[u8]) -> Begun<central::State> {
     if letter_of(call) == b'd' {
         let state = central::step::start(word(call, JOURNAL).len());
-        return Heard {
+        return Begun {
             state,
             before: JOURNAL,
         };
     }
     let state = saved_central(call, STAGE);
-    Heard {
+    Begun {
         state,
         before: CENTRAL,
     }
@@ -135,8 +135,7 @@ fn hear<W: Write>(
         return Ok(dropped.state);
     }
     let stepped = central::step::step(state, settings, pagers, journal, string, answer);
-    let outcome = stepped.outcome;
-    print_outcome(to, call, outcome, answer)?;
+    print_outcome(to, call, stepped.outcome, answer)?;
     Ok(stepped.state)
 }
 
@@ -166,8 +165,7 @@ fn print_central<W: Write>(
     journal: &[u8],
     answer: &[u8],
 ) -> io::Result<()> {
-    let stage = state.stage;
-    print_number(to, stage_name(stage), state.failures)?;
+    print_number(to, stage_name(state.stage), state.failures)?;
     print_number(to, SPACE, state.length)?;
     print_digest(to, SPACE, part(journal, 0, state.journal))?;
     if letter_of(call) == b'f' {
@@ -192,13 +190,6 @@ pub(crate) fn stage_name(stage: Stage) -> &'static str {
 
 // ── The entry device ──
 
-// The state before the first reply, and which argument is the last before it.
-#[derive(Clone, Copy)]
-pub(crate) struct Begun {
-    pub(crate) state: device::State,
-    pub(crate) before: u8,
-}
-
 // What the entry device sends first, or why it does not start; and what it does with each reply. Or,
 // at both, where it reports that the central's lines stand.
 pub(crate) fn print_play<W: Write>(to: &mut W, call: &[u8], string: &mut [u8]) -> io::Result<()> {
@@ -216,13 +207,16 @@ pub(crate) fn print_play<W: Write>(to: &mut W, call: &[u8], string: &mut [u8]) -
 }
 
 // From the start, or from the state that the call gives.
-pub(crate) fn begin<W: Write>(to: &mut W, call: &[u8], string: &mut [u8]) -> io::Result<Begun> {
+pub(crate) fn begin<W: Write>(
+    to: &mut W,
+    call: &[u8],
+    string: &mut [u8],
+) -> io::Result<Begun<device::State>> {
     let started = device::step::start(device_settings(call, 1), word(call, JOB), string);
     let outcome = started.outcome;
     let state = started.state;
     if letter_of(call) == b'x' {
-        let remarks = started.remarks;
-        print_reported(to, NOTHING, remarks, outcome)?;
+        print_reported(to, NOTHING, started.remarks, outcome)?;
         return Ok(saved_device(call));
     }
     print_outcome(to, call, outcome, string)?;
@@ -239,12 +233,13 @@ pub(crate) fn begin<W: Write>(to: &mut W, call: &[u8], string: &mut [u8]) -> io:
 }
 
 // The state that the arguments behind the job are.
-fn saved_device(call: &[u8]) -> Begun {
+fn saved_device(call: &[u8]) -> Begun<device::State> {
     let place = Place {
         transaction: number(call, 5),
         block: number(call, 6),
         attempts: number(call, 7),
     };
+    // The letter is read here alone, for another crate's enum: no `TryFrom`.
     let step = match byte(word(call, 4), 0) {
         b'o' => Step::Opening(place),
         b'l' => Step::Logon(place),
@@ -282,13 +277,10 @@ fn take<W: Write>(
     let stepped = device::step::step(state, settings, word(call, JOB), reply, string);
     let outcome = stepped.outcome;
     if letter_of(call) == b'x' {
-        let remarks = stepped.remarks;
-        print_reported(to, COMMA, remarks, outcome)?;
+        print_reported(to, COMMA, stepped.remarks, outcome)?;
         return Ok(stepped.state);
     }
-    let given = stepped.given;
-    let report = stepped.report;
-    print_given(to, given, report)?;
+    print_given(to, stepped.given, stepped.report)?;
     print_outcome(to, call, outcome, string)?;
     Ok(stepped.state)
 }
@@ -313,8 +305,7 @@ fn print_given<W: Write>(to: &mut W, given: Option<Given>, report: Report) -> io
 
 // The step, with its transaction, block and attempts.
 fn print_device<W: Write>(to: &mut W, state: device::State) -> io::Result<()> {
-    let step = state.step;
-    match step {
+    match state.step {
         Step::Opening(place) => print_place(to, names::OPENING, place),
         Step::Logon(place) => print_place(to, names::LOGON, place),
         Step::Sending(place) => print_place(to, names::SENDING, place),

@@ -97,8 +97,7 @@ fn print_flush<W: Write>(to: &mut W, call: &[u8], state: Framer, out: &mut [u8])
     print_bytes(to, SPACE, part(&held, 0, state.length))?;
     say(to, COMMA)?;
     let flushed = framer::flush(state, out);
-    let outcome = flushed.outcome;
-    print_outcome(to, call, outcome, out)?;
+    print_outcome(to, call, flushed.outcome, out)?;
     let last = flushed.state;
     let rest = last.held;
     print_number(to, COMMA, last.length)?;

@@ -105,8 +105,7 @@ fn print_session<W: Write>(
     let mut stepped = begun;
     for index in before..count {
         stepped = hear(call, word(call, index + 1), stepped, pagers, journal, out);
-        let outcome = stepped.outcome;
-        print_outcome(to, call, outcome, out)?;
+        print_outcome(to, call, stepped.outcome, out)?;
         say(to, COMMA)?;
     }
     print_number(to, NOTHING, stepped.journal)?;

@@ -63,15 +63,8 @@ fn run<W: Write>(to: &mut W, input: &[u8]) -> io::Result<()> {
 
 // The answer to one call, on a line.
 fn print_answer<W: Write>(to: &mut W, line: &[u8]) -> io::Result<()> {
-    let mut call = large_buffer();
+    let mut call = calls::filled(0);
     argument::decode(line, &mut call);
     calls::print_answer(to, &call)?;
     names::say(to, names::LINE_END)
-}
-
-// Room for a call. The `ensures` gives only the length, which lending the array needs.
-fn large_buffer() -> [u8; 65536]
-    ensures { 65536 ≡ length result }
-{
-    [0; 65536]
 }
