@@ -25,7 +25,8 @@ stored_bytes (done (Some bytes)) = bytes
 stored_bytes (done None) = []
 stored_bytes (refused n) = []
 
--- what admission owes: the answer, 0 with the journal's new length or with none where the information is rejected, and the buffer with what is stored laid over it (R-8.3)
+-- what admission owes: the answer, 0 with the journal's new length or with none where the information is rejected, and the buffer with
+-- what is stored laid over it (R-8.3)
 pub record Admits (o : Outcome (Option (List ℕ))) (r : Result (Option ℕ) Refusal) (before after : List ℕ) : Type 0 where
   pub answers : outcome_of r ≡ map_done stored_length o
   pub leaves : after ≡ overlay (stored_bytes o) before

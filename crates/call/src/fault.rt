@@ -73,7 +73,7 @@ pub(crate) fn arrive(part: Part, string: &mut [u8]) -> usize
     }
 }
 
-// A byte with bit 7 flipped: the library's method, under the name that a definition has.
+// A byte with bit 7 flipped, by the library's method; the definition has a name too.
 fn flip(b: u8) -> u8
     ensures { result ≡ flip_top b }
 {

@@ -25,11 +25,7 @@ use Rattle.framer.proofs.HeldLaws.{held-long, held-short}
 
 -- ── Zeros ──
 
--- the array has 256 of them, and these behind n bytes
-pub blank-length : length blank ≡ 256
-unfolding blank
-blank-length = refl
-
+-- those of the array behind n bytes
 blank-drop : (n : ℕ) → drop n blank ≡ replicate (256 - n) 0
 unfolding blank
 blank-drop n = zeros-drop n 256
