@@ -65,7 +65,7 @@ module _ (most : ℕ) (pagers buffer : List ℕ) (n : ℕ) (t : List ℕ) where
         extends = rw (opened, (legal-parts t good).0)
 
         -- it is stored
-        admit_stored : (k : ℕ) → r ≡ Ok k → Admits (admit_to most pagers buffer n t) (Ok (Some k)) buffer after
+        pub admit_stored : (k : ℕ) → r ≡ Ok k → Admits (admit_to most pagers buffer n t) (Ok (Some k)) buffer after
         admit_stored k e = go (room_at p t) (admit_judged ∙ rw right) extends
           where
             go : (b : Bool) → admit_to most pagers buffer n t ≡ done (if b then Some (extended buffer p t) else None) → extend_to buffer n t ≡ (if not b then refused 8 else done (extended buffer p t)) →
@@ -80,7 +80,7 @@ module _ (most : ℕ) (pagers buffer : List ℕ) (n : ℕ) (t : List ℕ) where
                 absurd (omega arith)
 
         -- there is no room
-        admit_full : (q : Refusal) → r ≡ Err q → Admits (admit_to most pagers buffer n t) (Ok None) buffer after
+        pub admit_full : (q : Refusal) → r ≡ Err q → Admits (admit_to most pagers buffer n t) (Ok None) buffer after
         admit_full q e = go (room_at p t) (admit_judged ∙ rw right) extends
           where
             go : (b : Bool) → admit_to most pagers buffer n t ≡ done (if b then Some (extended buffer p t) else None) → extend_to buffer n t ≡ (if not b then refused 8 else done (extended buffer p t)) →

@@ -10,6 +10,7 @@ use journal::Position;
 use journal::buffer::{check_in, open_in};
 use journal::cursor::{BYTES, LENGTH, RECORDS, TRAILER};
 use line::Refusal;
+use line::memory::copy;
 use line::transaction::{MOST_INFORMATION, check_transaction};
 
 // One transaction more in a journal that is checked whole, and the journal's new length.
@@ -64,7 +65,7 @@ fn put_tail(info: &[u8], count: usize, size: usize, part: &mut [u8])
     ensures { part.new ≡ overlay (tail_of info.now count size) part.old }
 {
     let n = info.len();
-    part[..n].copy_from_slice(info);
+    let _ = copy(info, part);
     put_number(n, part, n);
     put_number(count, part, n + 2);
     put_number(size, part, n + 4);

@@ -150,7 +150,7 @@ fn put_summed(info: &[u8], ending: Ending, out: &mut [u8])
 {
     let n = info.len();
     out[0] = STX;
-    out[1..n + 1].copy_from_slice(info);
+    let _ = line::memory::copy(info, &mut out[1..]);
     out[n + 1] = u8::from(ending);
 }
 

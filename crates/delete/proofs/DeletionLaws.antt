@@ -13,7 +13,7 @@ use Rattle.journal.specs.Storage.{decode_in, size_of}
 use Rattle.central.specs.Lent.{state_of, whole_of}
 use Rattle.central.specs.declared.state.Control.{Control}
 use Rattle.central.specs.declared.state.State.{State}
-use Rattle.delete.specs.Deletion.{is_open, rests_in_range, deletable, state_over}
+use Rattle.delete.specs.Deletion.{is_open, rests_in_range, without_newest, deletable, state_over}
 use Rattle.delete.specs.Inner.{allowed, behind, deleted_chosen, without}
 use Rattle.delete.specs.declared.choice.Choice.{Choice}
 use Rattle.delete.specs.declared.choice.Choice.TheVariants.{Nothing}
@@ -28,7 +28,7 @@ module _ (choice : Choice) (s : State) (b : List ℕ) where
 
   -- in range, the journal is tested, and then what is allowed is left out
   pub in_range_lem : rests_in_range s.stage s.failures s.length ≡ true → and_then (decode_in b s.journal) (without (allowed s.stage choice)) ≡ deleted_chosen choice s b
-  unfolding deletable
+  unfolding deletable without_newest
   in_range_lem e = rw e (go (is_open s.stage) (decode_in b s.journal))
     where
       go : (x : Bool) (o : Outcome (List (List ℕ))) → and_then o (without (if x then Nothing else choice)) ≡ and_then (and_then o (λ ts. if x then refused 9 else done ts)) (without choice)

@@ -199,6 +199,11 @@ pager-kept : (m : ℕ) (rs : List (List ℕ)) → without_pager m (reverse rs) �
 unfolding without_pager
 pager-kept m rs = rw (pager_any m 1 rs, others-reverse m rs, ← pager-others m 1 rs) (choice-not (eqb (length (kept_from (Pager m) 1 rs)) (length rs)) (done (reverse (kept_from (Pager m) 1 rs))) (refused 9))
 
+-- no record has the rank 0
+none-there : (ts : List (List ℕ)) → without_newest 0 ts ≡ refused 9
+unfolding without_newest
+none-there ts = refl
+
 -- all is kept where nothing is chosen
 nothing-kept : (rank : ℕ) (rs : List (List ℕ)) → kept_from Nothing rank rs ≡ rs
 unfolding kept_from
@@ -209,7 +214,7 @@ nothing-kept rank (t ∷ rs) = ap (λ us. t ∷ us) (nothing-kept (rank + 1) rs)
 pub without-kept : (choice : Choice) (rs : List (List ℕ)) → without choice (reverse rs) ≡ answered choice rs
 without-kept (Newest n) rs = newest_kept n rs
 without-kept (Pager m) rs = pager-kept m rs
-without-kept Nothing rs = rw (nothing-kept 1 rs, eq-eqb (length rs) (length rs) refl)
+without-kept Nothing rs = none-there (reverse rs) ∙ rw (nothing-kept 1 rs, eq-eqb (length rs) (length rs) refl)
 
 -- a journal without those chosen is a journal
 pub without-journal : (choice : Choice) (ts ks : List (List ℕ)) → Journal ts → without choice ts ≡ done ks → Journal ks

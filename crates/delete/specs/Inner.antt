@@ -1,7 +1,7 @@
 -- What the functions inside a deletion ask and owe.
 use Rattle.std.specs.Prelude.{Result, Bool, false, List, [], ◌∷◌, ◌++◌, reverse, ◌≡◌, ℕ, ◌+◌, eqb, length, take, drop, if◌then◌else◌}
 use Rattle.std.specs.Result.{result_unwrap_or}
-use Rattle.line.specs.Answer.{Outcome, refused, outcome_of, map_done, and_then, output, overlay}
+use Rattle.line.specs.Answer.{Outcome, outcome_of, map_done, and_then, output, overlay}
 use Rattle.line.specs.declared.answer.Refusal.{Refusal}
 use Rattle.journal.specs.Cursor.{walk_from}
 use Rattle.journal.specs.Encoding.{two_bytes, records_of}
@@ -29,11 +29,11 @@ kept_from choice rank [] = []
 kept_from choice rank (t ∷ ts) =
     if is_chosen choice rank t then kept_from choice (rank + 1) ts else t ∷ kept_from choice (rank + 1) ts
 
--- the transactions of a journal without those that are chosen: 9 where there is none
+-- the transactions of a journal without those that are chosen: 9 where there is none. Nothing chosen is the record of rank 0, which none has
 abbrev pub without : Choice → List (List ℕ) → Outcome (List (List ℕ))
 without (Newest n) = without_newest n
 without (Pager m) = without_pager m
-without Nothing = λ ts. refused 9
+without Nothing = without_newest 0
 
 -- the same of those before a position
 abbrev pub removed_from : Choice → List ℕ → Position → Outcome (List (List ℕ))

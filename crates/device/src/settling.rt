@@ -4,10 +4,11 @@ ghost use Rattle.line.specs.Answer.{done};
 ghost use Rattle.device.specs.Reaction.{move_as};
 ghost use Rattle.device.specs.Settling as Settling;
 ghost use Rattle.device.specs.Step.{sent, standing_of};
+ghost use Rattle.device.specs.declared.state.Report.TheVariants as Reporting;
 
 use crate::reaction::Move;
 use crate::state::{Confirmation, Report, Settings, Step, Verdict};
-use reply::Meaning;
+use reply::{Meaning, Reply};
 
 // How the accepted verdicts of a call stand.
 #[derive(Clone, Copy)]
@@ -78,5 +79,18 @@ fn standing_by(confirmation: Confirmation, report: Report) -> Standing
 fn confirms(report: Report) -> bool
     ensures { result ≡ Settling.confirms report }
 {
-    matches!(report, Report::Close(Some(Meaning::Eot)))
+    match report {
+        Report::Close(reply) => is_eot(reply),
+        Report::Nothing => false,
+    }
+}
+
+// The reply to the close is ESC EOT: an unread one confirms nothing. `let .. else` is the named form.
+fn is_eot(reply: Reply) -> bool
+    ensures { result ≡ Settling.confirms (Reporting.Close reply) }
+{
+    let Some(meaning) = reply else {
+        return false;
+    };
+    meaning == Meaning::Eot
 }

@@ -68,26 +68,26 @@ pub enum Verdict {
     InDoubt,
 }
 
+// The number of a verdict, by the name that README.md gives it: `u8::from` goes through it.
+pub fn verdict_number(verdict: Verdict) -> u8
+    ensures { result ≡ verdict_number verdict }
+{
+    match verdict {
+        Verdict::Accepted => 1,
+        Verdict::Rejected => 2,
+        Verdict::Unconfirmed => 3,
+        Verdict::Deferred => 4,
+        Verdict::Unsent => 5,
+        Verdict::InDoubt => 6,
+    }
+}
+
 impl From<Verdict> for u8 {
     ghost from_gives = { λ verdict number. number ≡ verdict_number verdict };
 
     fn from(verdict: Verdict) -> u8 {
-        match verdict {
-            Verdict::Accepted => 1,
-            Verdict::Rejected => 2,
-            Verdict::Unconfirmed => 3,
-            Verdict::Deferred => 4,
-            Verdict::Unsent => 5,
-            Verdict::InDoubt => 6,
-        }
+        verdict_number(verdict)
     }
-}
-
-// The number of a verdict: `u8::from`, by the name that README.md gives it.
-pub fn verdict_number(verdict: Verdict) -> u8
-    ensures { result ≡ verdict_number verdict }
-{
-    u8::from(verdict)
 }
 
 // A verdict, and the transaction that it is given to.

@@ -73,7 +73,11 @@ fn test(settings: Settings, step: Step, job: &[u8], room: usize) -> Result<Locat
     if room < ROOM {
         return Err(Refusal::Size);
     }
-    let found = survey(job, transaction_of(step))?;
+    // No `?`: what is handed on stands on a line of its own, which a must-fail edit turns.
+    let surveyed = survey(job, transaction_of(step));
+    let Ok(found) = surveyed else {
+        return surveyed;
+    };
     if !cuts_all(settings.way, job) {
         return Err(Refusal::Length);
     }

@@ -1,20 +1,20 @@
 -- Laws of a journal written out: bytes put behind what is there, a walk that looks whether every record is a page, a page by its two fields, and a loop that puts the lines of one record after the other.
-use Rattle.std.specs.Prelude.{None, Some, if◌then◌else◌}
+use Rattle.std.specs.Prelude.{None, Some, Result, if◌then◌else◌}
 use mathlib.Core.Bool.{Bool, true, false, ◌&&◌, and_assoc, and_comm, and-true, and-eq-true_iff}
 use mathlib.Core.List.{List, [], ◌∷◌, ◌++◌, flat_map, append_assoc, append-nil, reverse, reverse-cons}
 use mathlib.Core.Path.{◌≡◌, refl, sym, ap, ◌∙◌}
 use Prim.Native.Nat.{ℕ, ◌+◌, ◌-◌, ◌*◌, ◌≤◌, ◌<◌}
 use native.Mathlib.Omega.{arith}
 use borrow.Author.Tests.{eqb-true}
-use borrow.Rule.Slice.PartMut.{put_mid}
 use lib.Dec.{eqb}
 use lib.ListN.{length, take, drop, length-append, length-reverse, take-append-drop}
 use lib.Seq.{length-take-le, take_at, drop-drop, drop-append_seam, drop-append-add}
-use Rattle.line.proofs.CopyLaws.{copied-behind}
-use Rattle.line.proofs.LaidLaws.{laid_none, laid-length}
+use Rattle.line.proofs.CopyLaws.{copied-laid}
+use Rattle.line.proofs.LaidLaws.{laid_none, part_length, laid-length, laid-part}
 use Rattle.line.proofs.OutcomeLaws.{then_done, map-done, map-refused, met}
 use Rattle.line.proofs.OverlayLaws.{overlay-own}
-use Rattle.line.specs.Answer.{Outcome, done, refused, map_done, and_then, output, Laid}
+use Rattle.line.specs.Answer.{Outcome, done, refused, map_done, and_then, output, Laid, Wrote, copied}
+use Rattle.line.specs.declared.answer.Refusal.{Refusal}
 use Rattle.line.specs.Character.{CR, byte, printable}
 use Rattle.line.specs.Test.{all, before}
 use Rattle.line.specs.Text.{bytes_of}
@@ -34,10 +34,13 @@ use Rattle.export.specs.Export.{Adds, Exportable, page_lines, second_field, line
 
 -- ── Bytes behind what is there ──
 
--- a part behind a place, filled with bytes
-pub filled_adds : (at k : ℕ) (xs out after : List ℕ) → k ≡ length xs → after ≡ xs → Adds at xs (at + length xs) out (put_mid at k out after)
-filled_adds at k xs out after f h laid memory d e =
-    record { counts = omega (arith, d.counts, length-append laid xs); leaves = copied-behind laid xs memory out after at k d.leaves (sym d.counts) (sym f) h }
+-- a copy to the memory from a place on, which has room
+pub copied_adds : {r : Result ℕ Refusal} (at : ℕ) (xs out after : List ℕ) → at + length xs ≤ length out →
+    Wrote (copied xs (length (take (length out - at) (drop at out)))) r (take (length out - at) (drop at out)) after →
+    Adds at xs (at + length xs) out (take at out ++ (after ++ drop (length out - at) (drop at out)))
+copied_adds at xs out after h w laid memory d e =
+    let room = part_length at out in
+    laid-part d (omega arith) (record { counts = refl; leaves = copied-laid xs (take (length out - at) (drop at out)) after (omega arith) w })
 
 -- bytes that are put behind what is there, and have room
 module _ {at end : ℕ} {xs out out' : List ℕ} (adds : Adds at xs end out out') (room : at + length xs ≤ length out) where

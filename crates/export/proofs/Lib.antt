@@ -1,2 +1,1 @@
 pub mod ExportLaws
-pub mod NamedLaws

@@ -11,7 +11,7 @@ use journal::Position;
 use journal::cursor::{LENGTH, TRAILER, open, step_back};
 use line::Refusal;
 use line::character::CR;
-use line::memory::find;
+use line::memory::{copy, find};
 
 // The longest answer of any journal.
 pub const ROOM: usize = 33024;
@@ -92,7 +92,6 @@ fn put_text(text: &[u8], out: &mut [u8], at: usize) -> usize
     requires { at + ListN.length text.now ≤ ListN.length out.old }
     ensures { Adds at text.now result out.old out.new }
 {
-    let end = at + text.len();
-    out[at..end].copy_from_slice(text);
-    end
+    let _ = copy(text, &mut out[at..]);
+    at + text.len()
 }

@@ -28,10 +28,14 @@ pub size_bounds : (t : List ℕ) → (2 ≤ size t) × (size t ≤ 256)
 unfolding size
 size_bounds t = choice (λ n. (2 ≤ n) × (n ≤ 256)) (is EOT (get_or t 0 0)) (λ _. omega arith) (λ _. omega arith)
 
+-- it goes by the first byte, and by the first ending behind it
+pub size-first : (b : ℕ) (bs : List ℕ) → size (b ∷ bs) ≡ (if is EOT b then 2 else min 256 (before_first is_ending bs + 6))
+unfolding size
+size-first b bs = refl
+
 -- a string that goes on still goes on by as much, whatever comes
 pub size_grows : (b : ℕ) (bs u : List ℕ) → size (b ∷ bs) ≤ size (b ∷ bs ++ u)
-unfolding size
-size_grows b bs u = go (is EOT b) (first_least is_ending bs u)
+size_grows b bs u = rw (size-first b bs, size-first b (bs ++ u)) (go (is EOT b) (first_least is_ending bs u))
   where
     go : (t : Bool) → before_first is_ending bs ≤ before_first is_ending (bs ++ u) → (if t then 2 else min 256 (before_first is_ending bs + 6)) ≤ (if t then 2 else min 256 (before_first is_ending (bs ++ u) + 6))
     go true h = omega arith

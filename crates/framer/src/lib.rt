@@ -148,8 +148,8 @@ fn go_on(held: &[u8], bytes: &[u8], before: usize, out: &mut [u8]) -> Fed
             state: hold(held, bytes),
         };
     }
-    out[..n].copy_from_slice(held);
-    out[n..size].copy_from_slice(&bytes[..wanted]);
+    let _ = copy(held, out);
+    let _ = copy(&bytes[..wanted], &mut out[n..]);
     Fed {
         outcome: Ok(Some(size)),
         used: before + wanted,

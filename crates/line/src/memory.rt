@@ -1,6 +1,6 @@
 // Lent memory: copies into it, searches in it, and whether two parts hold the same.
-ghost use Rattle.std.specs.Prelude.{◌≡◌, ◌+◌, drop, length};
-ghost use Rattle.line.specs.Answer.{Wrote, copied};
+ghost use Rattle.std.specs.Prelude.{◌≡◌, ◌+◌, ◌≤◌, drop, length};
+ghost use Rattle.line.specs.Answer.{Wrote, copied, overlay};
 ghost use Rattle.line.specs.Test.{before, same};
 
 use crate::answer::Refusal;
@@ -15,8 +15,19 @@ pub fn copy(bytes: &[u8], out: &mut [u8]) -> Result<usize, Refusal>
     if out.len() < bytes.len() {
         return Err(Refusal::Size);
     }
-    out[..bytes.len()].copy_from_slice(bytes);
+    put(bytes, out);
     Ok(bytes.len())
+}
+
+// A loop: where `copy_from_slice` may not see that the two lie apart it becomes a call of `memmove`, which the archive for C would ask
+// of those who link it.
+fn put(bytes: &[u8], out: &mut [u8])
+    requires { length bytes.now ≤ length out.old }
+    ensures { out.new ≡ overlay bytes.now out.old }
+{
+    for (i, &byte) in bytes.iter().enumerate() {
+        out[i] = byte;
+    }
 }
 
 // The place of the first such byte, from a place on. Where there is none it is the end, or that place itself if it lies further on, so

@@ -91,9 +91,9 @@ shows-all bytes = rw zero-add
 -- a search that has come to i
 module _ (s : Search) (bytes : List ℕ) (i : ℕ) where
   -- at the end of the bytes nothing is left
-  pub shows-end : i ≤ length bytes → length bytes ≤ i → to_show s bytes i ≡ shown s (length bytes)
+  pub shows-end : length bytes ≤ i → to_show s bytes i ≡ shown s i
   unfolding before_code lines_in
-  shows-end h k = let e : i ≡ length bytes = omega arith in rw (drop_of_length-le bytes k, add-zero, e)
+  shows-end h = rw (drop_of_length-le bytes h, add-zero)
 
   -- nor at a character that no line has
   pub shows_code : i < length bytes → of_line (character_at bytes i) ≡ false → to_show s bytes i ≡ shown s i

@@ -60,7 +60,10 @@ fn lay(begin: &[u8], journal: &mut [u8]) {
 
 // The byte that is lent at a place: behind the bytes that the call gives, such as tell places apart.
 fn lent(begin: &[u8], at: usize) -> u8 {
-    begin.get(at).copied().unwrap_or((at % 251) as u8)
+    match begin.get(at) {
+        Some(&byte) => byte,
+        None => (at % 251) as u8, // A division, made only where it is asked for.
+    }
 }
 
 // The deletion that the first byte names, by place or by pager; a capital letter makes it beside lent

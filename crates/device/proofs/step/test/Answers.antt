@@ -1,12 +1,14 @@
 -- `test` meets its contract: each return is the case of `tested` that the tests before it leave; the survey says what it found where all pass.
+use Rattle.std.specs.Prelude.{Result, Ok}
 use mathlib.Core.Bool.{Bool}
 use mathlib.Core.List.{List}
 use mathlib.Core.Path.{◌≡◌, sym, ap, ◌∙◌}
 use Prim.Native.Nat.{ℕ}
 use borrow.Author.Tests.{lt-ltb}
 use lib.ListN.{length, take, drop}
-use Rattle.line.specs.Answer.{done, map_done, output}
-use Rattle.line.proofs.OutcomeLaws.{map-done, map-refused, handed-refusal}
+use Rattle.line.specs.Answer.{done, map_done, outcome_of, output}
+use Rattle.line.specs.declared.answer.Refusal.{Refusal}
+use Rattle.line.proofs.OutcomeLaws.{map-done, map-refused}
 use Rattle.journal.specs.Survey.{survey_of}
 use Rattle.journal.specs.Walk.{decode}
 use Rattle.journal.specs.declared.record.Located.{Located}
@@ -20,9 +22,9 @@ use Rattle.device.proofs.WaitLaws.{here-lies, sends-own}
 use Rattle.device.proofs.step.test.Goals as goal
 
 -- the job was read, and surveyed at the step's transaction
-surveyed : (job : List ℕ) {from at : ℕ} {found : Located} → at ≡ from → done found ≡ map_done (survey_of at) (decode job) →
+surveyed : (job : List ℕ) {from at : ℕ} {r : Result Located Refusal} {found : Located} → at ≡ from → outcome_of r ≡ map_done (survey_of at) (decode job) → r ≡ Ok found →
     (ts : List (List ℕ)) × (decode job ≡ done ts) × (survey_of from ts ≡ found)
-surveyed job same e = map-done _ (decode job) _ (rw (← same, ← e))
+surveyed job same e found = map-done _ (decode job) _ (rw (← same, ← e, found))
 
 -- the way was asked whether it can cut the job
 asked : (way : Way) (job : List ℕ) {ts : List (List ℕ)} {cuts told : Bool} → decode job ≡ done ts → cuts ≡ cuts_all way (output (decode job)) → cuts ≡ told → cuts_all way ts ≡ told
@@ -53,31 +55,32 @@ returns-then-room-lt-ROOM c =
     let kept = sym c.step_in_range.ensures ∙ c.if-not-step_in_range.false in
     rw (ranged, kept, lt-ltb _ 256 c.if-room-lt-ROOM.true)
 
-pub returns-in_err-found : goal.returns-in_err-found
-returns-in_err-found c =
+pub returns-in_default : goal.returns-in_default
+returns-in_default c =
     let ranged = sym c.settings_in_range.ensures ∙ c.if-not-settings_in_range.false in
     let kept = sym c.step_in_range.ensures ∙ c.if-not-step_in_range.false in
-    let malformed = map-refused _ (decode _) _ (sym c.in_err-found.ensures) in
-    handed-refusal _ _ c.from_residual.ensures.1 ∙ rw (tested_malformed c.args.settings c.args.step c.args.job.now _ ranged kept c.if-room-lt-ROOM.false _ malformed)
+    let told = ap outcome_of c.in_default.is in
+    let malformed = map-refused _ (decode _) _ (sym c.survey-surveyed.ensures ∙ told) in
+    rw (tested_malformed _ _ _ _ ranged kept c.if-room-lt-ROOM.false _ malformed) told
 
 pub returns-then-not-cuts_all : goal.returns-then-not-cuts_all
 returns-then-not-cuts_all c =
     let ranged = sym c.settings_in_range.ensures ∙ c.if-not-settings_in_range.false in
     let kept = sym c.step_in_range.ensures ∙ c.if-not-step_in_range.false in
-    let (ts, read, _) = surveyed c.args.job.now c.transaction_of.ensures c.in_ok-found.ensures in
+    let (ts, read, _) = surveyed c.args.job.now c.transaction_of.ensures c.survey-surveyed.ensures c.in-Ok.is in
     let uncut = asked c.args.settings.way c.args.job.now read c.cuts_all.ensures c.if-not-cuts_all.true in
     rw (tested_uncut c.args.settings _ _ _ ranged kept c.if-room-lt-ROOM.false ts read uncut)
 
 pub part-requires : goal.part-requires
 part-requires c =
-    let (ts, read, same) = surveyed c.args.job.now c.transaction_of.ensures c.in_ok-found.ensures in
+    let (ts, read, same) = surveyed c.args.job.now c.transaction_of.ensures c.survey-surveyed.ensures c.in-Ok.is in
     (here-lies c.args.job.now ts read (transaction_of c.args.step) same).inside
 
 pub returns-then-not-place_exists : goal.returns-then-not-place_exists
 returns-then-not-place_exists c =
     let ranged = sym c.settings_in_range.ensures ∙ c.if-not-settings_in_range.false in
     let kept = sym c.step_in_range.ensures ∙ c.if-not-step_in_range.false in
-    let (ts, read, same) = surveyed c.args.job.now c.transaction_of.ensures c.in_ok-found.ensures in
+    let (ts, read, same) = surveyed c.args.job.now c.transaction_of.ensures c.survey-surveyed.ensures c.in-Ok.is in
     let cut = asked c.args.settings.way c.args.job.now read c.cuts_all.ensures c.if-not-cuts_all.false in
     let off = looked c.args.settings c.args.step c.args.job.now read same c.part.ensures c.place_exists.ensures c.if-not-place_exists.true in
     rw (tested-nowhere _ _ _ _ ranged kept c.if-room-lt-ROOM.false ts read cut off)
@@ -86,7 +89,7 @@ pub returns : goal.returns
 returns c =
     let ranged = sym c.settings_in_range.ensures ∙ c.if-not-settings_in_range.false in
     let kept = sym c.step_in_range.ensures ∙ c.if-not-step_in_range.false in
-    let (ts, read, same) = surveyed c.args.job.now c.transaction_of.ensures c.in_ok-found.ensures in
+    let (ts, read, same) = surveyed c.args.job.now c.transaction_of.ensures c.survey-surveyed.ensures c.in-Ok.is in
     let cut = asked c.args.settings.way c.args.job.now read c.cuts_all.ensures c.if-not-cuts_all.false in
     let on = looked c.args.settings c.args.step c.args.job.now read same c.part.ensures c.place_exists.ensures c.if-not-place_exists.false in
     rw (tested-there _ _ _ _ ranged kept c.if-room-lt-ROOM.false ts read cut on) (sym (ap done same))

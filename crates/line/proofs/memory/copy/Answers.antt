@@ -1,7 +1,7 @@
 -- `copy` meets its contract: each return is the case of `copied` that its test leaves.
 use mathlib.Core.Path.{refl}
 use borrow.Author.Tests.{lt-ltb, le-ltb}
-use Rattle.line.specs.Answer.{copied, overlay}
+use Rattle.line.specs.Answer.{copied}
 use Rattle.line.proofs.OverlayLaws.{wrote-refused, wrote-done}
 use Rattle.line.proofs.memory.copy.Goals as goal
 
@@ -10,7 +10,7 @@ unfolding copied
 returns-then-out-bytes c = wrote-refused _ _ (rw (lt-ltb _ _ c.if-out-bytes.true))
 
 pub returns : goal.returns
-unfolding copied overlay
+unfolding copied
 returns c =
     let a = c.args in
-    wrote-done a.bytes.now _ _ _ (rw (le-ltb _ _ c.if-out-bytes.false)) refl (rw c.copy_from_slice.ensures.after refl)
+    wrote-done a.bytes.now _ _ _ (rw (le-ltb _ _ c.if-out-bytes.false)) refl c.put.ensures

@@ -1,5 +1,6 @@
-use mathlib.Core.Path.{sym, ◌∙◌}
+use mathlib.Core.Path.{◌≡◌, sym, ◌∙◌}
 use Prim.Native.Nat.{◌<◌}
+use native.Mathlib.Omega.{arith}
 use lib.ListN.{length}
 use Rattle.reply.proofs.SearchLaws.{shows-all, shows-end, shows_code, shows-next, shows_character}
 use borrow.Author.Rules.{rules}
@@ -36,4 +37,5 @@ pub returns : goal.returns
 returns c =
     let l = c.loop-i in
     let bytes = c.args.bytes.now in
-    c.shown-2.ensures ∙ sym (l.invariant.2 ∙ shows-end l.search bytes l.i l.invariant.0 c.loop-i-test.false)
+    let all : l.i ≡ length bytes = omega (arith, l.invariant.0, c.loop-i-test.false) in
+    c.shown-2.ensures ∙ sym (l.invariant.2 ∙ shows-end l.search bytes l.i c.loop-i-test.false ∙ rw all)
