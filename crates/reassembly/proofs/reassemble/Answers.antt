@@ -2,7 +2,7 @@
 use mathlib.Core.Bool.{not, true}
 use mathlib.Core.List.{List, ◌++◌}
 use mathlib.Core.Path.{◌≡◌, refl, sym, ◌∙◌}
-use Prim.Native.Nat.{ℕ, ◌≤◌, ◌+◌, ◌-◌}
+use Prim.Native.Nat.{ℕ, ◌<◌, ◌≤◌, ◌+◌, ◌-◌}
 use borrow.Author.Tests.{lt-ltb, le-ltb}
 use denote.Enum.Bare.{sameb}
 use lib.ListN.{length}
@@ -52,8 +52,8 @@ pub returns-then-length-information_length-gt-MOST_INFORMATION : goal.returns-th
 unfolding join_block
 returns-then-length-information_length-gt-MOST_INFORMATION c =
     let ranged = sym c.in_range.ensures ∙ c.if-not-in_range.false in
-    joined-refused _ _
-    (rw (ranged, le-ltb _ 2000 c.if-buffer-lt-MOST_INFORMATION.false, ← c.information_length.ensures, lt-ltb 2000 _ c.if-length-information_length-gt-MOST_INFORMATION.true))
+    let over : 2000 < c.args.state.length + c.information_length.result = omega (arith, c.if-length-information_length-gt-MOST_INFORMATION.true) in
+    joined-refused _ _ (rw (ranged, le-ltb _ 2000 c.if-buffer-lt-MOST_INFORMATION.false, ← c.information_length.ensures, lt-ltb 2000 _ over))
 
 pub returns-in_err-ending : goal.returns-in_err-ending
 returns-in_err-ending c =
