@@ -29,7 +29,7 @@ kept_from choice rank [] = []
 kept_from choice rank (t ∷ ts) =
     if is_chosen choice rank t then kept_from choice (rank + 1) ts else t ∷ kept_from choice (rank + 1) ts
 
--- the transactions of a journal without those that are chosen: 9 where there is none. Nothing chosen is the record of rank 0, which none has
+-- the transactions of a journal without those that are chosen: 9 where there is none (`Nothing` is the rank 0, which no record has)
 abbrev pub without : Choice → List (List ℕ) → Outcome (List (List ℕ))
 without (Newest n) = without_newest n
 without (Pager m) = without_pager m
